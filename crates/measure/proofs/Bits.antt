@@ -1,0 +1,54 @@
+-- Numbers by their bits. Assumes nothing.
+use mathlib.Core.Path.{_≡_, refl, sym, ap, _∙_}
+use mathlib.Core.Bool.{Bool, true, false, _||_}
+use Prim.Native.Nat.{ℕ, zero, suc, max, _+_, _*_, _/_, _%_, _^_, _<_}
+use native.Mathlib.Nat.{pow-suc}
+use native.Mathlib.Numerals.{one-add}
+use native.Mathlib.Omega.{arith}
+use lib.Bits.{bitAnd, bitOr, and-mask, or-step, or-shr, or-lt}
+use lib.Dec.{eqb}
+use Rattle.std.proofs.shelf.Bits.{shr-shr}
+use Rattle.std.proofs.shelf.Ways.{tells}
+use Rattle.measure.specs.Bits.{bit}
+
+or-digit : (x y : ℕ) → bitOr x y % 2 ≡ max (x % 2) (y % 2)
+or-digit x y = omega (arith, or-step x y)
+
+one-of : (p q : ℕ) → p < 2 → q < 2 → eqb (max p q) 1 ≡ (eqb p 1 || eqb q 1)
+one-of p q hp hq = grind (arith, tells)
+
+pub bit-or : (a b k : ℕ) → bit (bitOr a b) k ≡ (bit a k || bit b k)
+bit-or a b k =
+    ap (λ n. eqb (n % 2) 1) (or-shr a b k)
+    ∙ ap (λ n. eqb n 1) (or-digit (a / 2 ^ k) (b / 2 ^ k))
+    ∙ one-of (a / 2 ^ k % 2) (b / 2 ^ k % 2) (omega arith) (omega arith)
+
+-- bit k of the half is bit k + 1
+bit-half : (n k : ℕ) → bit (n / 2) k ≡ bit n (suc k)
+bit-half n k = ap (λ m. eqb (m % 2) 1) (shr-shr n 1 k ∙ ap (λ j. n / 2 ^ j) (one-add k))
+
+same-digit : (a b : ℕ) → bit a 0 ≡ bit b 0 → a % 2 ≡ b % 2
+same-digit a b e = grind (arith, tells)
+
+pub same-bits : (w a b : ℕ) → a < 2 ^ w → b < 2 ^ w → ((k : ℕ) → k < w → bit a k ≡ bit b k) → a ≡ b
+same-bits zero a b ha hb e = omega arith
+same-bits (suc w) a b ha hb e =
+    let halves = same-bits w (a / 2) (b / 2) (omega (arith, pow-suc 2 w)) (omega (arith, pow-suc 2 w)) (λ k h. bit-half a k ∙ e (suc k) (omega arith) ∙ sym (bit-half b k)) in
+    omega (arith, same-digit a b (e 0 (omega arith)))
+
+either-assoc : (x y z : Bool) → ((x || y) || z) ≡ (x || (y || z))
+either-assoc true y z = refl
+either-assoc false y z = refl
+
+pub or-assoc-below : (w a b c : ℕ) → a < 2 ^ w → b < 2 ^ w → c < 2 ^ w → bitOr (bitOr a b) c ≡ bitOr a (bitOr b c)
+or-assoc-below w a b c ha hb hc =
+    same-bits w (bitOr (bitOr a b) c) (bitOr a (bitOr b c)) (or-lt w _ c (or-lt w a b ha hb) hc) (or-lt w a _ ha (or-lt w b c hb hc))
+    (λ k _.
+      bit-or (bitOr a b) c k
+      ∙ ap (λ x. x || bit c k) (bit-or a b k)
+      ∙ either-assoc (bit a k) (bit b k) (bit c k)
+      ∙ sym (bit-or a (bitOr b c) k ∙ ap (λ x. bit a k || x) (bit-or b c k)))
+
+-- how the code reads a bit
+pub bit-read : (n k : ℕ) → eqb (bitAnd (n / 2 ^ k) 1) 1 ≡ bit n k
+bit-read n k = ap (λ m. eqb m 1) (and-mask (n / 2 ^ k) 1)

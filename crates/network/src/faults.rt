@@ -1,0 +1,48 @@
+// The refusals of a network, and the parts of the engine that refuse.
+ghost use mathlib.Core.Path.{_≡_};
+ghost use Rattle.network.specs.Faults.{number, layer};
+
+// The part of the engine that refuses.
+#[derive(Clone, Copy, PartialEq, Eq, Debug)]
+pub enum Layer {
+    Network,
+    Session,
+    Question,
+    Vet,
+    Script,
+}
+
+// Why a network refuses.
+#[derive(Clone, Copy, PartialEq, Eq, Debug)]
+pub enum Fault {
+    // There are not 1 to 128 nodes.
+    Nodes,
+    // The memory handed to the making is too short.
+    Memory,
+    // A node that is named is not below the number of nodes.
+    Node,
+    // The pair is not allowed.
+    Pair,
+    // The pair is untied, and as many pairs are tied as the cap allows.
+    Full,
+}
+
+impl Fault {
+    pub fn number(self) -> u8
+        ensures { λ r. ⌜ r ≡ number self ⌝ }
+    {
+        match self {
+            Fault::Nodes => 1,
+            Fault::Memory => 2,
+            Fault::Node => 3,
+            Fault::Pair => 4,
+            Fault::Full => 5,
+        }
+    }
+
+    pub fn layer(self) -> Layer
+        ensures { λ r. ⌜ r ≡ layer self ⌝ }
+    {
+        Layer::Network
+    }
+}

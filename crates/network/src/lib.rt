@@ -1,0 +1,8 @@
+// Networks: where ties live, and when a put is refused.
+
+// The refusals of a network, with their numbers.
+pub mod faults;
+// What a network tells and takes.
+pub mod interface;
+// Every pair allowed, a byte for each.
+pub mod matrix;
