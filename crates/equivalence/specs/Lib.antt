@@ -1,0 +1,4 @@
+pub mod Faults
+pub mod Totals
+pub mod Regular
+pub mod Vetted

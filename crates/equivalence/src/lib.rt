@@ -1,0 +1,8 @@
+// Regular equivalence: totals toward a set of nodes, and the vet of a table.
+
+// The refusals of the vet.
+pub mod faults;
+// What a node has with a set of nodes.
+pub mod totals;
+// Whether a table is regular.
+pub mod vetting;
