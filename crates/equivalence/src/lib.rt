@@ -6,3 +6,5 @@ pub mod faults;
 pub mod totals;
 // Whether a table is regular.
 pub mod vetting;
+// What regular means in the literature's own words.
+pub mod literature;

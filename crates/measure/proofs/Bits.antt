@@ -1,13 +1,13 @@
 -- Numbers by their bits. Assumes nothing.
 use mathlib.Core.Path.{_≡_, refl, sym, ap, _∙_}
 use mathlib.Core.Bool.{Bool, true, false, _||_}
-use Prim.Native.Nat.{ℕ, zero, suc, max, _+_, _*_, _/_, _%_, _^_, _<_}
-use native.Mathlib.Nat.{pow-suc}
+use Prim.Native.Nat.{ℕ, zero, suc, max, _+_, _-_, _*_, _/_, _%_, _^_, _<_}
+use native.Mathlib.Nat.{pow-suc, zero-div}
 use native.Mathlib.Numerals.{one-add}
 use native.Mathlib.Omega.{arith}
 use lib.Bits.{bitAnd, bitOr, and-mask, or-step, or-shr, or-lt}
 use lib.Dec.{eqb}
-use Rattle.std.proofs.shelf.Bits.{shr-shr}
+use Rattle.std.proofs.shelf.Bits.{shr-shr, field-of, mod-pow-add}
 use Rattle.std.proofs.shelf.Ways.{tells}
 use Rattle.measure.specs.Bits.{bit}
 
@@ -52,3 +52,14 @@ or-assoc-below w a b c ha hb hc =
 -- how the code reads a bit
 pub bit-read : (n k : ℕ) → eqb (bitAnd (n / 2 ^ k) 1) 1 ≡ bit n k
 bit-read n k = ap (λ m. eqb m 1) (and-mask (n / 2 ^ k) 1)
+
+pub bit-zero : (k : ℕ) → bit 0 k ≡ false
+bit-zero k = ap (λ n. eqb (n % 2) 1) (zero-div (2 ^ k))
+
+-- a bit below w is a bit of the low w bits
+pub bit-low : (w k n : ℕ) → k < w → bit (n % 2 ^ w) k ≡ bit n k
+bit-low w k n h =
+    let j = w - k - 1 in
+    let split : w ≡ (j + 1) + k = omega arith in
+    let low : (n / 2 ^ k) % 2 ^ (j + 1) % 2 ≡ n / 2 ^ k % 2 = omega (arith, mod-pow-add (n / 2 ^ k) j 1) in
+    ap (λ v. eqb (n % 2 ^ v / 2 ^ k % 2) 1) split ∙ ap (λ v. eqb (v % 2) 1) (field-of n (j + 1) k) ∙ ap (λ v. eqb v 1) low

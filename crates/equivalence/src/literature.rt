@@ -1,0 +1,26 @@
+// What regular means in the literature's own words, measure by measure.
+ghost use mathlib.Core.Path.{_≡_};
+ghost use mathlib.Core.Logic.{_↔_};
+ghost use lib.ListN.{length};
+ghost use Rattle.std.specs.declared.option.Option.the-variants.{None};
+ghost use Rattle.std.specs.declared.result.Result.the-variants.{Ok};
+ghost use Rattle.measure.specs.Kinds.{kinds};
+ghost use Rattle.equivalence.specs.Literature.{Regular-in-each, Regular-under-kinds};
+ghost use Rattle.equivalence.specs.Vetted.{Vetted, role-in};
+use super::faults::Fault;
+use super::vetting::vet;
+use measure::kinds::Kinds;
+use measure::kinds::KindsMeasure;
+use network::interface::Readable;
+
+// The vet under kinds: yes exactly when the table is a regular equivalence of each of the eight kinds of tie.
+pub fn vet_kinds<N: Readable>(network: &N, table: &[u8]) -> Result<Option<(usize, usize, usize)>, Fault>
+    ensures vetted { λ r. ⌜ Vetted kinds (N·Readable .meaning (now (network .entry))) (now (table .entry)) r ⌝ }
+    ensures textbook {
+        λ r. ⌜ (r ≡ Ok None) ↔ ((length (now (table .entry)) ≡ N·Readable .meaning (now (network .entry)) .nodes)
+            × Regular-in-each (N·Readable .meaning (now (network .entry))) (role-in (now (table .entry)))) ⌝
+    }
+    ensures theorem { λ _. ⌜ Regular-under-kinds ⌝ }
+{
+    vet(network, &Kinds, table)
+}
