@@ -12,7 +12,7 @@ use Rattle.measure.specs.declared.kinds.sets.KindSets.{KindSets}
 use Rattle.measure.proofs.Bits.{same-bits}
 use Rattle.measure.proofs.KindLaws.{sets-same}
 use Rattle.equivalence.specs.Totals.{total}
-use Rattle.equivalence.specs.Regular.{Regular, role-of}
+use Rattle.equivalence.specs.Regular.{Table, Regular, role-of}
 use Rattle.equivalence.specs.Literature.{Regular-equivalence, Regular-in-each, Regular-under-kinds}
 use Rattle.equivalence.proofs.KindTotals.{Side, tie-from-total, total-from-tie}
 
@@ -22,7 +22,7 @@ out-side = record { of-none = refl; of-weigh = λ o i. refl; of-join = λ a b. r
 in-side : Side (λ v. v .into) (λ o i. i)
 in-side = record { of-none = refl; of-weigh = λ o i. refl; of-join = λ a b. refl }
 
-module _ (side : KindSets → ℕ) (pick : ℕ → ℕ → ℕ) (is : Side side pick) (m : Meaning) (role : ℕ → ℕ) (k : ℕ) (kind : k < 8) where
+module _ (side : KindSets → ℕ) (pick : ℕ → ℕ → ℕ) (is : Side side pick) (m : Meaning) (role : Table) (k : ℕ) (kind : k < 8) where
   -- what a has with c, b has with some d of c's role
   abbrev Carried : Type 0
   Carried = (a b c : ℕ) → a < m .nodes → b < m .nodes → c < m .nodes → role a ≡ role b → bit (pick (m .tie a c) (m .tie c a)) k ≡ true → (d : ℕ) × (d < m .nodes) × (role d ≡ role c) × (bit (pick (m .tie b d) (m .tie d b)) k ≡ true)
@@ -46,11 +46,11 @@ module _ (side : KindSets → ℕ) (pick : ℕ → ℕ → ℕ) (is : Side side 
       (bit-moves carry x y z hx hy e, bit-moves carry y x z hy hx (sym e))
       (λ s. s, λ s. s)
 
-each-from-regular : (m : Meaning) (role : ℕ → ℕ) → Regular kinds m role → Regular-in-each m role
+each-from-regular : (m : Meaning) (role : Table) → Regular kinds m role → Regular-in-each m role
 each-from-regular m role regular k kind =
     record { outgoing = carried _ _ out-side m role k kind regular; incoming = carried _ _ in-side m role k kind regular }
 
-regular-from-each : (m : Meaning) (role : ℕ → ℕ) → Regular-in-each m role → Regular kinds m role
+regular-from-each : (m : Meaning) (role : Table) → Regular-in-each m role → Regular kinds m role
 regular-from-each m role each z hz x y hx hy e =
     let a = total kinds m x (role-of role z) in
     let b = total kinds m y (role-of role z) in

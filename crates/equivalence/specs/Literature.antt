@@ -11,9 +11,9 @@ use Prim.Native.Nat.{ℕ, _<_}
 use Rattle.network.specs.Meaning.{Meaning}
 use Rattle.measure.specs.Bits.{bit}
 use Rattle.measure.specs.Kinds.{kinds}
-use Rattle.equivalence.specs.Regular.{Regular}
+use Rattle.equivalence.specs.Regular.{Table, Regular}
 
-pub record Regular-equivalence (n : ℕ) (R : ℕ → ℕ → Type 0) (role : ℕ → ℕ) : Type 0 where
+pub record Regular-equivalence (n : ℕ) (R : ℕ → ℕ → Type 0) (role : Table) : Type 0 where
   -- a and b share a role, and a is related to c: then b is related to some d of c's role
   pub outgoing : (a b c : ℕ) → a < n → b < n → c < n → role a ≡ role b → R a c → (d : ℕ) × (d < n) × (role d ≡ role c) × R b d
   -- the same of the nodes that are related to a
@@ -22,8 +22,8 @@ pub record Regular-equivalence (n : ℕ) (R : ℕ → ℕ → Type 0) (role : �
 abbrev pub tied-by : ℕ → Meaning → ℕ → ℕ → Type 0
 tied-by k m i j = bit (m .tie i j) k ≡ true
 
-abbrev pub Regular-in-each : Meaning → (ℕ → ℕ) → Type 0
+abbrev pub Regular-in-each : Meaning → Table → Type 0
 Regular-in-each m role = (k : ℕ) → k < 8 → Regular-equivalence (m .nodes) (tied-by k m) role
 
 abbrev pub Regular-under-kinds : Type 0
-Regular-under-kinds = (m : Meaning) (role : ℕ → ℕ) → Regular kinds m role ↔ Regular-in-each m role
+Regular-under-kinds = (m : Meaning) (role : Table) → Regular kinds m role ↔ Regular-in-each m role

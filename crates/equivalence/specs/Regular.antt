@@ -1,7 +1,6 @@
 -- When a table is regular. Assumes nothing.
 --
---   A table is a function that gives each node its role; its roles are those that it gives to a node, so none is empty.
---
+--   Table       the role of each node; its roles are those that it gives to some node, so none is empty
 --   role-of     the set of the nodes that share z's role
 --   Balanced    two nodes of one role have equal totals toward the set
 --   Regular     two nodes of one role have equal totals toward every role
@@ -14,16 +13,19 @@ use Rattle.network.specs.Meaning.{Meaning}
 use Rattle.measure.specs.Measures.{Operations}
 use Rattle.equivalence.specs.Totals.{total}
 
-abbrev pub role-of : (ℕ → ℕ) → ℕ → ℕ → Bool
+abbrev pub Table : Type 0
+Table = ℕ → ℕ
+
+abbrev pub role-of : Table → ℕ → ℕ → Bool
 role-of role z y = eqb (role y) (role z)
 
-abbrev pub Balanced : {V : Type 0} → Operations V → Meaning → (ℕ → ℕ) → (ℕ → Bool) → Type 0
+abbrev pub Balanced : {V : Type 0} → Operations V → Meaning → Table → (ℕ → Bool) → Type 0
 Balanced o m role among = (x y : ℕ) → x < m .nodes → y < m .nodes → role x ≡ role y → total o m x among ≡ total o m y among
 
-abbrev pub Regular : {V : Type 0} → Operations V → Meaning → (ℕ → ℕ) → Type 0
+abbrev pub Regular : {V : Type 0} → Operations V → Meaning → Table → Type 0
 Regular o m role = (z : ℕ) → z < m .nodes → Balanced o m role (role-of role z)
 
-pub record Unequal {V : Type 0} (o : Operations V) (m : Meaning) (role : ℕ → ℕ) (x y z : ℕ) : Type 0 where
+pub record Unequal {V : Type 0} (o : Operations V) (m : Meaning) (role : Table) (x y z : ℕ) : Type 0 where
   pub order : x < y
   pub node : y < m .nodes
   pub toward : z < m .nodes

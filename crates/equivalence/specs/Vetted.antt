@@ -1,9 +1,7 @@
 -- What the vet answers. Assumes nothing.
 --
---   role-in     the role of a node in a table of bytes
---   Refused     10 exactly when the table has not one byte for each node
---   Yes         yes exactly when it has, and is regular
---   No          otherwise the answer shows why: three nodes
+--   role-in    the table that a list of bytes is: equal bytes are one role
+--   Vetted     r is an answer of the vet
 use mathlib.Core.Path.{_≡_}
 use mathlib.Core.Logic.{_↔_}
 use mathlib.Core.List.{List}
@@ -15,13 +13,16 @@ use Rattle.std.specs.declared.result.Result.{Result}
 use Rattle.std.specs.declared.result.Result.the-variants.{Ok, Err}
 use Rattle.network.specs.Meaning.{Meaning}
 use Rattle.measure.specs.Measures.{Operations}
-use Rattle.equivalence.specs.Regular.{Regular, Unequal}
+use Rattle.equivalence.specs.Regular.{Table, Regular, Unequal}
 use Rattle.equivalence.specs.declared.faults.Fault.{Fault}
 
-abbrev pub role-in : List ℕ → ℕ → ℕ
+abbrev pub role-in : List ℕ → Table
 role-in table x = getD table x 0
 
 pub record Vetted {V : Type 0} (o : Operations V) (m : Meaning) (table : List ℕ) (r : Result (Option (ℕ × ℕ × ℕ)) Fault) : Type 0 where
+  -- 10 exactly when the table has not one byte for each node
   pub refused : (r ≡ Err Fault.Length) ↔ (length table ≡ m .nodes → ⊥)
+  -- yes exactly when it has, and is regular
   pub yes-when : (r ≡ Ok None) ↔ ((length table ≡ m .nodes) × Regular o m (role-in table))
+  -- otherwise three nodes that show why not
   pub no-shows : (x y z : ℕ) → r ≡ Ok (Some (x, y, z)) → Unequal o m (role-in table) x y z

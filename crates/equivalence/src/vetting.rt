@@ -81,7 +81,7 @@ fn unequal<N: Readable, M: Measure>(network: &N, measure: &M, table: &[u8]) -> O
 }
 
 // Whether the table is regular, equal bytes being one role: none where it is, else three nodes that show that it is not.
-// At most 2 n * n weighs and 4 n * n * n comparisons of table bytes; no memory but the answer.
+// At most 2 n * n weighs and 3 n * n * n comparisons of table bytes; no memory but the answer.
 pub fn vet<N: Readable, M: Measure>(network: &N, measure: &M, table: &[u8]) -> Result<Option<(usize, usize, usize)>, Fault>
     ensures { λ r. ⌜ Vetted (M·Measure .ops) (N·Readable .meaning (now (network .entry))) (now (table .entry)) r ⌝ }
 {

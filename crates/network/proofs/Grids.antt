@@ -58,5 +58,5 @@ module _ (n : ℕ) (bytes : List ℕ) (i j b : ℕ) (fits : n * n ≤ length byt
 
   pub grid-set : grid n (set bytes (i * n + j) b) ≡ put-after (grid n bytes) i j b
   grid-set =
-      ap (λ t. record { nodes = n; tie = t; allowed = λ _ _. true; most = n * n }) (fun-ext λ x. fun-ext λ y. grid-set-tie x y)
+      ap (λ t. record { nodes = n; tie = t; allowed = λ _ _. true; capacity = n * n }) (fun-ext λ x. fun-ext λ y. grid-set-tie x y)
       ∙ sym (put-accepted (grid n bytes) i j b (grid-put-answer n bytes i j b hi hj))

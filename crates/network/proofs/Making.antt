@@ -29,7 +29,7 @@ cleared-tie : (n : ℕ) (bytes : List ℕ) (x y : ℕ) → grid n (cleared (n * 
 cleared-tie n bytes x y = grind (arith, tells, cleared-below (n * n) bytes (x * n + y), place-below n x y (n * n) (le-refl (n * n)))
 
 pub grid-cleared : (n : ℕ) (bytes : List ℕ) → grid n (cleared (n * n) bytes) ≡ untied n
-grid-cleared n bytes = ap (λ t. record { nodes = n; tie = t; allowed = λ _ _. true; most = n * n }) (fun-ext λ x. fun-ext λ y. cleared-tie n bytes x y)
+grid-cleared n bytes = ap (λ t. record { nodes = n; tie = t; allowed = λ _ _. true; capacity = n * n }) (fun-ext λ x. fun-ext λ y. cleared-tie n bytes x y)
 
 -- bytes that are cleared as the making does are the network without ties
 pub making : (n size : ℕ) (memory bytes : List ℕ) → isErr (grid-check n size) ≡ false → bytes ≡ cleared (n * n) memory → record { meaning : grid n bytes ≡ untied (granted n size); memory : bytes ≡ cleared (granted n size * granted n size) memory; roomy : Never-full }

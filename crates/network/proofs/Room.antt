@@ -18,5 +18,5 @@ tied-pairs-lt m i j hi hj free =
     hi
     (count-below-lt (tied m i) (m .nodes) j hj free)
 
-pub room-for-all : (m : Meaning) (i j b : ℕ) → m .nodes * m .nodes ≤ m .most → i < m .nodes → j < m .nodes → room m i j b ≡ true
+pub room-for-all : (m : Meaning) (i j b : ℕ) → m .nodes * m .nodes ≤ m .capacity → i < m .nodes → j < m .nodes → room m i j b ≡ true
 room-for-all m i j b wide hi hj = grind (arith, tells, tied-pairs-lt m i j hi hj)

@@ -18,7 +18,7 @@ grid n bytes =
       nodes = n;
       tie = λ i j. cond (inside n i j) (getD bytes (i * n + j) 0) 0;
       allowed = λ _ _. true;
-      most = n * n;
+      capacity = n * n;
     }
 
 -- whether n nodes fit into so many bytes: accepted, or the first no of 1 and 2
@@ -27,7 +27,7 @@ grid-check n bytes = cond (ltb 0 n && leb n 128) (cond (leb (n * n) bytes) (Ok t
 
 -- n nodes without a tie
 abbrev pub untied : ℕ → Meaning
-untied n = record { nodes = n; tie = λ _ _. 0; allowed = λ _ _. true; most = n * n }
+untied n = record { nodes = n; tie = λ _ _. 0; allowed = λ _ _. true; capacity = n * n }
 
 -- the first k bytes are 0, the others as before
 abbrev pub cleared : ℕ → List ℕ → List ℕ

@@ -15,7 +15,7 @@ pub record Meaning : Type 0 where
   -- the pairs that may be tied
   pub allowed : ℕ → ℕ → Bool
   -- how many pairs may be tied at a time
-  pub most : ℕ
+  pub capacity : ℕ
 
 abbrev pub inside : ℕ → ℕ → ℕ → Bool
 inside n i j = ltb i n && ltb j n

@@ -12,7 +12,7 @@ use Rattle.network.specs.declared.faults.Fault.{Fault}
 
 -- the byte is 0, or the pair is tied, or fewer pairs are tied than the cap
 abbrev pub room : Meaning → ℕ → ℕ → ℕ → Bool
-room m i j b = eqb b 0 || (tied m i j || ltb (tied-pairs m) (m .most))
+room m i j b = eqb b 0 || (tied m i j || ltb (tied-pairs m) (m .capacity))
 
 abbrev pub put-answer : Meaning → ℕ → ℕ → ℕ → Result (Unit {0}) Fault
 put-answer m i j b =
@@ -27,7 +27,7 @@ with-tie m i j b =
       nodes = m .nodes;
       tie = λ x y. cond (eqb x i && eqb y j) b (m .tie x y);
       allowed = m .allowed;
-      most = m .most;
+      capacity = m .capacity;
     }
 
 abbrev pub put-after : Meaning → ℕ → ℕ → ℕ → Meaning
