@@ -4,3 +4,6 @@
 pub mod interface;
 // The sets of kinds that go out and come in.
 pub mod kinds;
+
+#[cfg(test)]
+mod tests;

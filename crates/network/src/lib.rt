@@ -6,3 +6,6 @@ pub mod faults;
 pub mod interface;
 // Every pair allowed, a byte for each.
 pub mod matrix;
+
+#[cfg(test)]
+mod tests;
