@@ -26,26 +26,26 @@ module _ {V : Type 0} (role : ℕ → ℕ) (value : ℕ → V) where
   agree-at : (y x : ℕ) → Agree y → role x ≡ role y → ((k : ℕ) → k < x → role k ≡ role y → ⊥) → (x < y → value x ≡ value y) → (j : ℕ) → j < y → role j ≡ role y → value j ≡ value y
   agree-at y x below mate lowest here j lt e =
       elim (cases-order j x) [
-        inl same ↦ ap value same ∙ here (omega arith)
-      | inr (inl under) ↦ absurd (lowest j under e)
-      | inr (inr over) ↦ sym (below x j over lt (mate ∙ sym e)) ∙ here (omega arith)
+        | inl same ↦ ap value same ∙ here (omega arith)
+        | inr (inl under) ↦ absurd (lowest j under e)
+        | inr (inr over) ↦ sym (below x j over lt (mate ∙ sym e)) ∙ here (omega arith)
       ]
 
   pub agree-more : (y x : ℕ) → Agree y → role x ≡ role y → ((k : ℕ) → k < x → role k ≡ role y → ⊥) → (x < y → value x ≡ value y) → Agree (y + 1)
   agree-more y x below mate lowest here j k lt kn e =
       elim (cases-lt k y) [
-        inl inner ↦ below j k lt inner e
-      | inr outer ↦
-          let last : k ≡ y = omega arith in
-          agree-at y x below mate lowest here j (omega arith) (e ∙ ap role last) ∙ ap value (sym last)
+        | inl inner ↦ below j k lt inner e
+        | inr outer ↦
+            let last : k ≡ y = omega arith in
+            agree-at y x below mate lowest here j (omega arith) (e ∙ ap role last) ∙ ap value (sym last)
       ]
 
   pub agree-all : (n top : ℕ) → Agree n → top ≤ n → (x y : ℕ) → x < top → y < top → role x ≡ role y → value x ≡ value y
   agree-all n top below all x y hx hy e =
       elim (cases-order x y) [
-        inl same ↦ ap value same
-      | inr (inl lt) ↦ below x y lt (omega arith) e
-      | inr (inr gt) ↦ sym (below y x gt (omega arith) (sym e))
+        | inl same ↦ ap value same
+        | inr (inl lt) ↦ below x y lt (omega arith) e
+        | inr (inr gt) ↦ sym (below y x gt (omega arith) (sym e))
       ]
 
 -- the set that the code reads is the role

@@ -8,6 +8,5 @@ pub mod totals;
 pub mod vetting;
 // What regular means in the literature's own words.
 pub mod literature;
-
 #[cfg(test)]
 mod tests;

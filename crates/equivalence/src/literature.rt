@@ -14,12 +14,13 @@ use measure::kinds::KindsMeasure;
 use network::interface::Readable;
 
 // The vet under kinds: yes exactly when the table is a regular equivalence of each of the eight kinds of tie.
-pub fn vet_kinds<N: Readable>(network: &N, table: &[u8]) -> Result<Option<(usize, usize, usize)>, Fault>
+pub fn vet_kinds<N: Readable>(
+    network: &N,
+    table: &[u8],
+) -> Result<Option<(usize, usize, usize)>, Fault>
     ensures vetted { λ r. ⌜ Vetted kinds (N·Readable .meaning (now (network .entry))) (now (table .entry)) r ⌝ }
-    ensures textbook {
-        λ r. ⌜ (r ≡ Ok None) ↔ ((length (now (table .entry)) ≡ N·Readable .meaning (now (network .entry)) .nodes)
-            × Regular-in-each (N·Readable .meaning (now (network .entry))) (role-in (now (table .entry)))) ⌝
-    }
+    ensures textbook { λ r. ⌜ (r ≡ Ok None) ↔ ((length (now (table .entry)) ≡ N·Readable .meaning (now (network .entry)) .nodes)
+        × Regular-in-each (N·Readable .meaning (now (network .entry))) (role-in (now (table .entry)))) ⌝ }
     ensures theorem { λ _. ⌜ Regular-under-kinds ⌝ }
 {
     vet(network, &Kinds, table)

@@ -91,5 +91,8 @@ fn a_total_takes_each_node_of_the_set(rt: LibcRuntime) -> Result<(), Fail> {
     check(Kinds.same(all, Kinds.weigh(1, 1)))?;
     let some = total_toward(&network, &Kinds, 0, &[7, 7], 7);
     check(Kinds.same(some, Kinds.weigh(1, 0)))?;
-    check(Kinds.same(total_toward(&network, &Kinds, 0, &[7, 7, 7], 8), Kinds.none()))
+    check(Kinds.same(
+        total_toward(&network, &Kinds, 0, &[7, 7, 7], 8),
+        Kinds.none(),
+    ))
 }

@@ -28,14 +28,19 @@ fn head(table: &[u8], x: usize) -> usize
 }
 
 // Whether x and y have equal totals toward z's role.
-fn alike<N: Readable, M: Measure>(network: &N, measure: &M, table: &[u8], x: usize, y: usize, z: usize) -> bool
+fn alike<N: Readable, M: Measure>(
+    network: &N,
+    measure: &M,
+    table: &[u8],
+    x: usize,
+    y: usize,
+    z: usize,
+) -> bool
     requires table { ⌜ length (now table) ≡ N·Readable .meaning (now network) .nodes ⌝ }
     requires node { ⌜ z < length (now table) ⌝ }
-    ensures {
-        λ r. ⌜ Decides r
+    ensures { λ r. ⌜ Decides r
         (total (M·Measure .ops) (N·Readable .meaning (now (network .entry))) x (role-of (role-in (now (table .entry))) z)
-            ≡ total (M·Measure .ops) (N·Readable .meaning (now (network .entry))) y (role-of (role-in (now (table .entry))) z)) ⌝
-    }
+        ≡ total (M·Measure .ops) (N·Readable .meaning (now (network .entry))) y (role-of (role-in (now (table .entry))) z)) ⌝ }
 {
     let first = total_toward(network, measure, x, table, table[z]);
     let second = total_toward(network, measure, y, table, table[z]);
@@ -43,14 +48,17 @@ fn alike<N: Readable, M: Measure>(network: &N, measure: &M, table: &[u8], x: usi
 }
 
 // Two nodes of one role with unequal totals toward z's role, the lower first. Holds each node against the lowest of its role.
-fn unequal_toward<N: Readable, M: Measure>(network: &N, measure: &M, table: &[u8], z: usize) -> Option<(usize, usize)>
+fn unequal_toward<N: Readable, M: Measure>(
+    network: &N,
+    measure: &M,
+    table: &[u8],
+    z: usize,
+) -> Option<(usize, usize)>
     requires table { ⌜ length (now table) ≡ N·Readable .meaning (now network) .nodes ⌝ }
     requires node { ⌜ z < length (now table) ⌝ }
-    ensures {
-        λ r. ⌜ BySome r
+    ensures { λ r. ⌜ BySome r
         (Balanced (M·Measure .ops) (N·Readable .meaning (now (network .entry))) (role-in (now (table .entry))) (role-of (role-in (now (table .entry))) z))
-        (λ p. Unequal (M·Measure .ops) (N·Readable .meaning (now (network .entry))) (role-in (now (table .entry))) (p .0) (p .1) z) ⌝
-    }
+        (λ p. Unequal (M·Measure .ops) (N·Readable .meaning (now (network .entry))) (role-in (now (table .entry))) (p .0) (p .1) z) ⌝ }
 {
     for y in 0..table.len() {
         let x = head(table, y);
@@ -62,13 +70,15 @@ fn unequal_toward<N: Readable, M: Measure>(network: &N, measure: &M, table: &[u8
 }
 
 // Three nodes that show that the table is not regular.
-fn unequal<N: Readable, M: Measure>(network: &N, measure: &M, table: &[u8]) -> Option<(usize, usize, usize)>
+fn unequal<N: Readable, M: Measure>(
+    network: &N,
+    measure: &M,
+    table: &[u8],
+) -> Option<(usize, usize, usize)>
     requires { ⌜ length (now table) ≡ N·Readable .meaning (now network) .nodes ⌝ }
-    ensures {
-        λ r. ⌜ BySome r
+    ensures { λ r. ⌜ BySome r
         (Regular (M·Measure .ops) (N·Readable .meaning (now (network .entry))) (role-in (now (table .entry))))
-        (λ w. Unequal (M·Measure .ops) (N·Readable .meaning (now (network .entry))) (role-in (now (table .entry))) (w .0) (w .1) (w .2)) ⌝
-    }
+        (λ w. Unequal (M·Measure .ops) (N·Readable .meaning (now (network .entry))) (role-in (now (table .entry))) (w .0) (w .1) (w .2)) ⌝ }
 {
     for z in 0..table.len() {
         if head(table, z) == z {
@@ -82,7 +92,11 @@ fn unequal<N: Readable, M: Measure>(network: &N, measure: &M, table: &[u8]) -> O
 
 // Whether the table is regular, equal bytes being one role: none where it is, else three nodes that show that it is not.
 // At most 2 n * n weighs and 3 n * n * n comparisons of table bytes; no memory but the answer.
-pub fn vet<N: Readable, M: Measure>(network: &N, measure: &M, table: &[u8]) -> Result<Option<(usize, usize, usize)>, Fault>
+pub fn vet<N: Readable, M: Measure>(
+    network: &N,
+    measure: &M,
+    table: &[u8],
+) -> Result<Option<(usize, usize, usize)>, Fault>
     ensures { λ r. ⌜ Vetted (M·Measure .ops) (N·Readable .meaning (now (network .entry))) (now (table .entry)) r ⌝ }
 {
     if table.len() != network.nodes() {

@@ -6,10 +6,12 @@ use Rattle.std.specs.Written.{decimal}
 use Rattle.std.specs.declared.option.Option.{Option}
 use Rattle.std.specs.declared.option.Option.the-variants.{Some, None}
 
+-- why a table is not regular: nodes x and y, and the role of node z
+abbrev pub reason-words : ℕ → ℕ → ℕ → List ℕ
+reason-words x y z =
+    codes "are not regular: nodes "
+    ++ (decimal x ++ (codes " and " ++ (decimal y ++ (codes " share a role, yet differ toward the role of node " ++ (decimal z ++ codes ".")))))
+
 abbrev pub verdict-words : Option (ℕ × ℕ × ℕ) → List ℕ
-verdict-words None = codes "regular."
-verdict-words (Some w) =
-    codes "not regular: nodes "
-    ++ (decimal (w .0)
-    ++ (codes " and "
-    ++ (decimal (w .1) ++ (codes " share a role, yet differ toward the role of node " ++ (decimal (w .2) ++ codes ".")))))
+verdict-words None = codes "are regular."
+verdict-words (Some w) = reason-words (w .0) (w .1) (w .2)

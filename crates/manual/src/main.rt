@@ -23,7 +23,7 @@ use trouble::TroubleFromVet;
 fn judge(rt: &LibcRuntime, page: &Matrix, name: &str, table: &[u8]) -> Result<(), Trouble> {
     let roles = words::listed(rt.alloc(), table)?;
     let verdict = words::verdict(rt.alloc(), vet_kinds(page, table)?)?;
-    println!(rt, "  {name} roles {roles}: {verdict}")?;
+    println!(rt, "  {name} roles {roles} {verdict}")?;
     Ok(())
 }
 

@@ -2,46 +2,68 @@
 ghost use mathlib.Core.Path.{_≡_};
 ghost use Rattle.std.specs.Of.String.{string-bytes};
 ghost use Rattle.std.specs.Vec.{made};
-ghost use Rattle.manual.specs.Words.{verdict-words};
+ghost use Rattle.manual.specs.Words.{reason-words, verdict-words};
 use network::interface::Readable;
 use std::alloc::AllocError;
 use std::alloc::Global;
 
+fn reason(heap: Global, x: usize, y: usize, z: usize) -> Result<String, AllocError>
+    ensures { λ r. ⌜ made r (λ s. string-bytes s ≡ reason-words x y z) ⌝ }
+{
+    format!(
+        heap,
+        "are not regular: nodes {x} and {y} share a role, yet differ toward the role of node {z}."
+    )
+}
+
+// What the vet's answer says of a table.
 pub fn verdict(heap: Global, answer: Option<(usize, usize, usize)>) -> Result<String, AllocError>
     ensures { λ r. ⌜ made r (λ s. string-bytes s ≡ verdict-words answer) ⌝ }
 {
     match answer {
-        None => String::from_str(heap, "regular."),
-        Some((x, y, z)) => format!(heap, "not regular: nodes {x} and {y} share a role, yet differ toward the role of node {z}."),
+        None => String::from_str(heap, "are regular."),
+        Some((x, y, z)) => reason(heap, x, y, z),
     }
+}
+
+// One more part of a list.
+fn add(all: &mut String, part: &str) -> Result<(), AllocError> {
+    if !all.is_empty() {
+        all.push_str(", ")?;
+    }
+    all.push_str(part)
 }
 
 // The roles of the nodes, in order.
 pub fn listed(heap: Global, table: &[u8]) -> Result<String, AllocError> {
     let mut all = String::new(heap);
-    for (x, role) in table.iter().enumerate() {
-        if x > 0 {
-            all.push_str(", ")?;
-        }
-        let role = *role;
-        let one = format!(heap, "{role}")?;
-        all.push_str(&one)?;
+    for role in table {
+        add(&mut all, &format!(heap, "{role}")?)?;
     }
     Ok(all)
 }
 
-// Each tied pair of the network.
+// Whether x has no tie, out or in.
+fn isolated<N: Readable>(network: &N, x: usize) -> bool {
+    for y in 0..network.nodes() {
+        if network.tie(x, y) > 0 || network.tie(y, x) > 0 {
+            return false;
+        }
+    }
+    true
+}
+
+// Each tied pair of the network, and each node without a tie.
 pub fn ties<N: Readable>(heap: Global, network: &N) -> Result<String, AllocError> {
     let mut all = String::new(heap);
     let n = network.nodes();
     for i in 0..n {
+        if isolated(network, i) {
+            add(&mut all, &format!(heap, "{i} has no tie")?)?;
+        }
         for j in 0..n {
             if network.tie(i, j) > 0 {
-                if !all.is_empty() {
-                    all.push_str(", ")?;
-                }
-                let one = format!(heap, "{i} is tied to {j}")?;
-                all.push_str(&one)?;
+                add(&mut all, &format!(heap, "{i} is tied to {j}")?)?;
             }
         }
     }

@@ -44,10 +44,10 @@ pub or-assoc-below : (w a b c : ℕ) → a < 2 ^ w → b < 2 ^ w → c < 2 ^ w �
 or-assoc-below w a b c ha hb hc =
     same-bits w (bitOr (bitOr a b) c) (bitOr a (bitOr b c)) (or-lt w _ c (or-lt w a b ha hb) hc) (or-lt w a _ ha (or-lt w b c hb hc))
     (λ k _.
-      bit-or (bitOr a b) c k
-      ∙ ap (λ x. x || bit c k) (bit-or a b k)
-      ∙ either-assoc (bit a k) (bit b k) (bit c k)
-      ∙ sym (bit-or a (bitOr b c) k ∙ ap (λ x. bit a k || x) (bit-or b c k)))
+    bit-or (bitOr a b) c k
+    ∙ ap (λ x. x || bit c k) (bit-or a b k)
+    ∙ either-assoc (bit a k) (bit b k) (bit c k)
+    ∙ sym (bit-or a (bitOr b c) k ∙ ap (λ x. bit a k || x) (bit-or b c k)))
 
 -- how the code reads a bit
 pub bit-read : (n k : ℕ) → eqb (bitAnd (n / 2 ^ k) 1) 1 ≡ bit n k

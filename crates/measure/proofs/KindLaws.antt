@@ -32,6 +32,6 @@ kinds-laws =
       neutral = λ a. sets-same _ _ (or-zero-r (a .out)) (or-zero-r (a .into));
       nothing = sets-same _ _ refl refl;
       sameness =
-        λ a b. decides-like _ (λ e. sets-same a b (e .0) (e .1)) (λ e. (ap (λ v. v .out) e, ap (λ v. v .into) e))
-        (decides-and _ _ (decides-eqb (a .out) (b .out)) (decides-eqb (a .into) (b .into)));
+          λ a b. decides-like _ (λ e. sets-same a b (e .0) (e .1)) (λ e. (ap (λ v. v .out) e, ap (λ v. v .into) e))
+          (decides-and _ _ (decides-eqb (a .out) (b .out)) (decides-eqb (a .into) (b .into)));
     }

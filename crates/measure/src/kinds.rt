@@ -25,7 +25,10 @@ pub impl Measure for Kinds as KindsMeasure {
     }
 
     fn join(&self, a: KindSets, b: KindSets) -> KindSets {
-        KindSets { out: a.out | b.out, into: a.into | b.into }
+        KindSets {
+            out: a.out | b.out,
+            into: a.into | b.into,
+        }
     }
 
     fn same(&self, a: KindSets, b: KindSets) -> bool {

@@ -4,6 +4,5 @@
 pub mod interface;
 // The sets of kinds that go out and come in.
 pub mod kinds;
-
 #[cfg(test)]
 mod tests;

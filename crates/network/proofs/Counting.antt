@@ -20,8 +20,8 @@ sum-below-lt f c (suc n) h i l short =
     let lower = λ (k : ℕ) (l : k < n). h k (omega arith) in
     let here : f n ≤ c = h n (omega arith) in
     rw suc-mul (elim (cases-lt i n) [
-      inl below ↦ omega (arith, sum-below-lt f c n lower i below short)
-    | inr above ↦ let e : i ≡ n = omega arith in omega (arith, sum-below-le f c n lower, rw e at short)
+      | inl below ↦ omega (arith, sum-below-lt f c n lower i below short)
+      | inr above ↦ let e : i ≡ n = omega arith in omega (arith, sum-below-le f c n lower, rw e at short)
     ])
 
 one : (b : Bool) → cond b 1 0 ≤ 1

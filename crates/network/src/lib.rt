@@ -6,6 +6,5 @@ pub mod faults;
 pub mod interface;
 // Every pair allowed, a byte for each.
 pub mod matrix;
-
 #[cfg(test)]
 mod tests;

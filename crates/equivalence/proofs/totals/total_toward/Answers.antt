@@ -15,11 +15,11 @@ loop-y-again g c =
     let y = c .loop-y .y in
     let among = labelled (c .args .labels .now) (c .args .label) in
     elim (c .if-y-labels .came) [
-      then-y-labels·then-labels-y w ↦
-        let inner : among y ≡ true = grind (arith, tells) in
-        let weighed : w .weigh .result ≡ o .weigh (m .tie x y) (m .tie y x) = rw (w .tie-out .ensures .value, w .tie-into .ensures .value) at (w .weigh .ensures) in
-        w .sum-is ∙ w .join-sum .ensures ∙ total-more-in o m x among y _ _ (c .loop-y .inv) inner weighed
-    | else-y-labels w ↦
-        let outer : among y ≡ false = grind (arith, tells) in
-        w .sum-is ∙ total-more-out o m x among (g .M·Measure·met .lawful) y _ (c .loop-y .inv) outer
+      | then-y-labels·then-labels-y w ↦
+          let inner : among y ≡ true = grind (arith, tells) in
+          let weighed : w .weigh .result ≡ o .weigh (m .tie x y) (m .tie y x) = rw (w .tie-out .ensures .value, w .tie-into .ensures .value) at (w .weigh .ensures) in
+          w .sum-is ∙ w .join-sum .ensures ∙ total-more-in o m x among y _ _ (c .loop-y .inv) inner weighed
+      | else-y-labels w ↦
+          let outer : among y ≡ false = grind (arith, tells) in
+          w .sum-is ∙ total-more-out o m x among (g .M·Measure·met .lawful) y _ (c .loop-y .inv) outer
     ]

@@ -14,12 +14,12 @@ loop-z-again g c =
     let m = g .N·Readable .meaning (c .args .network .now) in
     let role = role-in (c .args .table .now) in
     let here : Balanced o m role (role-of role (c .loop-z .z)) =
-        elim (c .if-head-z .came) [
-          then-head-z·in-rest w ↦ w .in-rest .ensures tt
-        | else-head-z w ↦
-            let h = c .head .result in
-            balanced-mate o m role h (c .loop-z .z) (c .head .ensures .mate) (c .loop-z .inv h (omega arith))
-        ]
+    elim (c .if-head-z .came) [
+      | then-head-z·in-rest w ↦ w .in-rest .ensures tt
+      | else-head-z w ↦
+          let h = c .head .result in
+          balanced-mate o m role h (c .loop-z .z) (c .head .ensures .mate) (c .loop-z .inv h (omega arith))
+    ]
     in
     below-more (λ k. Balanced o m role (role-of role k)) (c .loop-z .z) (c .loop-z .inv) here
 

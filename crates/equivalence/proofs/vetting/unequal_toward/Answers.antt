@@ -15,10 +15,10 @@ loop-y-again g c =
     let x = c .head-x .result in
     let y = c .loop-y .y in
     let here : x < y → value x ≡ value y =
-        elim (c .else-x-y .came) [
-          else-x-y·by·then-x-y·else-not-alike w ↦ λ _. w .alike .ensures .0 (w .if-not-alike .left)
-        | else-x-y·by·else-x-y w ↦ λ lt. absurd (omega arith)
-        ]
+    elim (c .else-x-y .came) [
+      | else-x-y·by·then-x-y·else-not-alike w ↦ λ _. w .alike .ensures .0 (w .if-not-alike .left)
+      | else-x-y·by·else-x-y w ↦ λ lt. absurd (omega arith)
+    ]
     in
     agree-more role value y x (c .loop-y .inv) (c .head-x .ensures .mate) (c .head-x .ensures .lowest) here
 
