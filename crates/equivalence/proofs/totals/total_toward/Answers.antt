@@ -17,7 +17,7 @@ loop-y-again g c =
     elim (c .if-y-labels .came) [
       | then-y-labels·then-labels-y w ↦
           let inner : among y ≡ true = grind (arith, tells) in
-          let weighed : w .weigh .result ≡ o .weigh (m .tie x y) (m .tie y x) = rw (w .tie-out .ensures .value, w .tie-into .ensures .value) at (w .weigh .ensures) in
+          let weighed : w .weigh .result ≡ o .weigh (m .tie x y) (m .tie y x) = cc in
           w .sum-is ∙ w .join-sum .ensures ∙ total-more-in o m x among y _ _ (c .loop-y .inv) inner weighed
       | else-y-labels w ↦
           let outer : among y ≡ false = grind (arith, tells) in

@@ -1,4 +1,5 @@
 use mathlib.Core.Path.{ap, _∙_}
+use borrow.Author.Needs.{needs}
 use lib.ListN.{take}
 use lib.Seq.{take-all}
 use Rattle.manual.specs.Drawing.{drawn-network}
@@ -6,7 +7,7 @@ use Rattle.manual.proofs.Drawings.{drawn-more}
 use Rattle.manual.proofs.drawing.drawn.Needs as need
 
 pub loop-i-again : need.loop-i-again
-loop-i-again c = drawn-more (c .args .n) (c .args .ties .now) (c .loop-i .i-index) _ _ (c .loop-i-test .taken) (c .loop-i .inv) (c .put .ensures .after)
+loop-i-again c = search (needs, drawn-more)
 
 pub returns : need.returns
 returns c = c .loop-i .inv ∙ ap (drawn-network (c .args .n)) (take-all _ _ (c .loop-i-test .left))
