@@ -4,7 +4,7 @@ use mathlib.Core.Bool.{Bool, true, false, cond, _&&_}
 use mathlib.Core.List.{List, _++_}
 use Prim.Native.Nat.{ℕ, _+_, _*_}
 use lib.Dec.{ltb, leb}
-use lib.ListN.{length, getD, drop, replicate}
+use lib.ListN.{length, getD, set, drop, replicate}
 use Rattle.std.specs.declared.result.Result.{Result}
 use Rattle.std.specs.declared.result.Result.the-variants.{Ok, Err}
 use Rattle.network.specs.Meaning.{Meaning, inside}
@@ -20,6 +20,10 @@ grid n bytes =
       allowed = λ _ _. true;
       capacity = n * n;
     }
+
+-- the bytes after a put: one byte differs where it is accepted
+abbrev pub written : ℕ → List ℕ → ℕ → ℕ → ℕ → List ℕ
+written n bytes i j b = cond (inside n i j) (set bytes (i * n + j) b) bytes
 
 -- whether n nodes fit into so many bytes: accepted, or the first no of 1 and 2
 abbrev pub grid-check : ℕ → ℕ → Result (Unit {0}) Fault

@@ -6,10 +6,7 @@ ghost use Rattle.network.specs.Faults.{number, layer};
 #[derive(Clone, Copy, PartialEq, Eq, Debug)]
 pub enum Layer {
     Network,
-    Session,
-    Question,
     Vet,
-    Script,
 }
 
 // Why a network refuses.

@@ -3,7 +3,8 @@ ghost use mathlib.Core.Path.{_≡_};
 ghost use Prim.Native.Nat.{_*_, _≤_};
 ghost use lib.ListN.{length};
 ghost use Rattle.std.specs.Of.Vec.{vec-len, vec-items};
-ghost use Rattle.network.specs.Grid.{grid, grid-check, granted, cleared, untied, Never-full};
+ghost use Rattle.network.specs.Grid.{grid, grid-check, granted, cleared, untied, written, Never-full};
+ghost use Rattle.network.specs.Put.{put-answer, put-after};
 use super::faults::Fault;
 use super::interface::Editable;
 use super::interface::Readable;
@@ -73,7 +74,11 @@ pub impl Readable for Matrix as MatrixReadable {
 }
 
 pub impl Editable for Matrix as MatrixEditable {
-    fn put(&mut self, i: usize, j: usize, b: u8) -> Result<(), Fault> {
+    fn put(&mut self, i: usize, j: usize, b: u8) -> Result<(), Fault>
+        ensures answer { λ r. ⌜ r ≡ put-answer (grid (now (self .entry) .n) (vec-items (now (self .entry) .bytes))) i j b ⌝ }
+        ensures after { λ _. ⌜ grid (now (self .exit) .n) (vec-items (now (self .exit) .bytes)) ≡ put-after (grid (now (self .entry) .n) (vec-items (now (self .entry) .bytes))) i j b ⌝ }
+        ensures memory { λ _. ⌜ vec-items (now (self .exit) .bytes) ≡ written (now (self .entry) .n) (vec-items (now (self .entry) .bytes)) i j b ⌝ }
+    {
         if i >= self.n || j >= self.n {
             return Err(Fault::Node);
         }
