@@ -1,23 +1,23 @@
 -- Holding each node against the lowest of its role balances the table. Assumes nothing.
-use mathlib.Core.Path.{_≡_, refl, sym, ap, subst, _∙_}
-use mathlib.Core.Bool.{Bool, true, false, cond, _&&_}
+use mathlib.Core.Path.{_≡_, sym, ap, subst, _∙_}
+use mathlib.Core.Bool.{Bool}
 use mathlib.Core.List.{List}
-use mathlib.Core.Logic.{_⊎_, inl, inr}
+use mathlib.Core.Logic.{inl, inr}
 use Prim.Native.Nat.{ℕ, _+_, _≤_, _<_}
 use native.Mathlib.Omega.{arith}
-use lib.Dec.{ltb, eqb}
-use lib.ListN.{length, getD}
+use lib.Dec.{eqb}
+use lib.ListN.{length}
 use Rattle.std.proofs.shelf.Tests.{cases-order, cases-lt}
 use Rattle.std.specs.Orderings.{Decides}
 use Rattle.std.proofs.shelf.Ways.{tells, decides-at, decides-like}
 use Rattle.network.specs.Meaning.{Meaning}
 use Rattle.measure.specs.Measures.{Operations, Laws}
 use Rattle.equivalence.specs.Totals.{total, labelled}
-use Rattle.equivalence.specs.Regular.{Balanced, Regular, role-of}
-use Rattle.equivalence.specs.Vetted.{role-in}
+use Rattle.equivalence.specs.Regular.{Table, Balanced, mates}
+use Rattle.equivalence.specs.Vetted.{table-of}
 use Rattle.equivalence.proofs.Gathering.{total-same}
 
-module _ {V : Type 0} (role : ℕ → ℕ) (value : ℕ → V) where
+module _ {V : Type 0} (role : Table) (value : ℕ → V) where
   -- nodes of one role below n have one value
   abbrev pub Agree : ℕ → Type 0
   Agree n = (j k : ℕ) → j < k → k < n → role j ≡ role k → value j ≡ value k
@@ -49,16 +49,16 @@ module _ {V : Type 0} (role : ℕ → ℕ) (value : ℕ → V) where
       ]
 
 -- the set that the code reads is the role
-pub total-role : {V : Type 0} (o : Operations V) (m : Meaning) (table : List ℕ) (x z : ℕ) → length table ≡ m .nodes → total o m x (labelled table (role-in table z)) ≡ total o m x (role-of (role-in table) z)
-total-role o m table x z fits = total-same o m x (labelled table (role-in table z)) (role-of (role-in table) z) (λ y h. grind (arith, tells))
+pub total-role : {V : Type 0} (o : Operations V) (m : Meaning) (table : List ℕ) (x z : ℕ) → length table ≡ m .nodes → total o m x (labelled table (table-of table z)) ≡ total o m x (mates (table-of table) z)
+total-role o m table x z fits = total-same o m x (labelled table (table-of table z)) (mates (table-of table) z) (λ y h. grind (arith, tells))
 
 -- sameness of the totals that the code computes decides whether the totals toward the role are equal
-pub same-decides : {V : Type 0} (o : Operations V) → Laws o → (m : Meaning) (table : List ℕ) (x y z : ℕ) (a b : V) (r : Bool) → length table ≡ m .nodes → a ≡ total o m x (labelled table (role-in table z)) → b ≡ total o m y (labelled table (role-in table z)) → r ≡ o .same a b → Decides r (total o m x (role-of (role-in table) z) ≡ total o m y (role-of (role-in table) z))
+pub same-decides : {V : Type 0} (o : Operations V) → Laws o → (m : Meaning) (table : List ℕ) (x y z : ℕ) (a b : V) (r : Bool) → length table ≡ m .nodes → a ≡ total o m x (labelled table (table-of table z)) → b ≡ total o m y (labelled table (table-of table z)) → r ≡ o .same a b → Decides r (total o m x (mates (table-of table) z) ≡ total o m y (mates (table-of table) z))
 same-decides o laws m table x y z a b r fits ea eb er =
     let p = ea ∙ total-role o m table x z fits in
     let q = eb ∙ total-role o m table y z fits in
     decides-like r (λ e. sym p ∙ e ∙ q) (λ e. p ∙ e ∙ sym q) (decides-at r (o .same a b) er (laws .sameness a b))
 
 -- one role is one set, whichever of its nodes names it
-pub balanced-mate : {V : Type 0} (o : Operations V) (m : Meaning) (role : ℕ → ℕ) (h z : ℕ) → role h ≡ role z → Balanced o m role (role-of role h) → Balanced o m role (role-of role z)
+pub balanced-mate : {V : Type 0} (o : Operations V) (m : Meaning) (role : Table) (h z : ℕ) → role h ≡ role z → Balanced o m role (mates role h) → Balanced o m role (mates role z)
 balanced-mate o m role h z e = subst (λ r. Balanced o m role (λ y. eqb (role y) r)) e

@@ -1,4 +1,4 @@
 pub mod Gathering
 pub mod Balance
 pub mod KindTotals
-pub mod Textbook
+pub mod RegularEquivalence

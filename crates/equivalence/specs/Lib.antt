@@ -2,4 +2,4 @@ pub mod Faults
 pub mod Totals
 pub mod Regular
 pub mod Vetted
-pub mod Literature
+pub mod Classical

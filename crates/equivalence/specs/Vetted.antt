@@ -1,6 +1,6 @@
 -- What the vet answers. Assumes nothing.
 --
---   role-in    the table that a list of bytes is: equal bytes are one role
+--   table-of    the table that a list of bytes is: equal bytes are one role
 --   Vetted     r is an answer of the vet
 use mathlib.Core.Path.{_≡_}
 use mathlib.Core.Logic.{_↔_}
@@ -16,13 +16,13 @@ use Rattle.measure.specs.Measures.{Operations}
 use Rattle.equivalence.specs.Regular.{Table, Regular, Unequal}
 use Rattle.equivalence.specs.declared.faults.Fault.{Fault}
 
-abbrev pub role-in : List ℕ → Table
-role-in table x = getD table x 0
+abbrev pub table-of : List ℕ → Table
+table-of table x = getD table x 0
 
 pub record Vetted {V : Type 0} (o : Operations V) (m : Meaning) (table : List ℕ) (r : Result (Option (ℕ × ℕ × ℕ)) Fault) : Type 0 where
   -- 10 exactly when the table has not one byte for each node
   pub refused : (r ≡ Err Fault.Length) ↔ (length table ≡ m .nodes → ⊥)
   -- yes exactly when it has, and is regular
-  pub yes-when : (r ≡ Ok None) ↔ ((length table ≡ m .nodes) × Regular o m (role-in table))
+  pub yes-when : (r ≡ Ok None) ↔ ((length table ≡ m .nodes) × Regular o m (table-of table))
   -- otherwise three nodes that show why not
-  pub no-shows : (x y z : ℕ) → r ≡ Ok (Some (x, y, z)) → Unequal o m (role-in table) x y z
+  pub no-shows : (x y z : ℕ) → r ≡ Ok (Some (x, y, z)) → Unequal o m (table-of table) x y z

@@ -6,7 +6,7 @@ pub mod faults;
 pub mod totals;
 // Whether a table is regular.
 pub mod vetting;
-// What regular means in the literature's own words.
-pub mod literature;
+// What regular means in the classical notions.
+pub mod classical;
 #[cfg(test)]
 mod tests;

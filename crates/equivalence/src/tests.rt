@@ -1,8 +1,8 @@
 // Small networks with known tables.
+use super::classical::vet_kinds;
 use super::faults::Fault;
 use super::faults::FaultDebug;
 use super::faults::FaultPartialEq;
-use super::literature::vet_kinds;
 use super::totals::total_toward;
 use super::vetting::vet;
 use measure::interface::Measure;

@@ -5,8 +5,8 @@ ghost use lib.ListN.{length};
 ghost use Rattle.std.specs.Options.{Cases as BySome};
 ghost use Rattle.std.specs.Orderings.{Decides};
 ghost use Rattle.equivalence.specs.Totals.{total};
-ghost use Rattle.equivalence.specs.Regular.{Balanced, Regular, Unequal, role-of};
-ghost use Rattle.equivalence.specs.Vetted.{Vetted, role-in};
+ghost use Rattle.equivalence.specs.Regular.{Balanced, Regular, Unequal, mates};
+ghost use Rattle.equivalence.specs.Vetted.{Vetted, table-of};
 use super::faults::Fault;
 use super::totals::total_toward;
 use measure::interface::Measure;
@@ -16,8 +16,8 @@ use network::interface::Readable;
 fn head(table: &[u8], x: usize) -> usize
     requires { ⌜ x < length (now table) ⌝ }
     ensures within { λ r. ⌜ r ≤ x ⌝ }
-    ensures mate { λ r. ⌜ role-in (now (table .entry)) r ≡ role-in (now (table .entry)) x ⌝ }
-    ensures lowest { λ r. ⌜ ((k : ℕ) → k < r → role-in (now (table .entry)) k ≡ role-in (now (table .entry)) x → ⊥) ⌝ }
+    ensures mate { λ r. ⌜ table-of (now (table .entry)) r ≡ table-of (now (table .entry)) x ⌝ }
+    ensures lowest { λ r. ⌜ ((k : ℕ) → k < r → table-of (now (table .entry)) k ≡ table-of (now (table .entry)) x → ⊥) ⌝ }
 {
     for k in 0..x {
         if table[k] == table[x] {
@@ -39,8 +39,8 @@ fn alike<N: Readable, M: Measure>(
     requires table { ⌜ length (now table) ≡ N·Readable .meaning (now network) .nodes ⌝ }
     requires node { ⌜ z < length (now table) ⌝ }
     ensures { λ r. ⌜ Decides r
-        (total (M·Measure .ops) (N·Readable .meaning (now (network .entry))) x (role-of (role-in (now (table .entry))) z)
-        ≡ total (M·Measure .ops) (N·Readable .meaning (now (network .entry))) y (role-of (role-in (now (table .entry))) z)) ⌝ }
+        (total (M·Measure .ops) (N·Readable .meaning (now (network .entry))) x (mates (table-of (now (table .entry))) z)
+        ≡ total (M·Measure .ops) (N·Readable .meaning (now (network .entry))) y (mates (table-of (now (table .entry))) z)) ⌝ }
 {
     let first = total_toward(network, measure, x, table, table[z]);
     let second = total_toward(network, measure, y, table, table[z]);
@@ -48,7 +48,7 @@ fn alike<N: Readable, M: Measure>(
 }
 
 // Two nodes of one role with unequal totals toward z's role, the lower first. Holds each node against the lowest of its role.
-fn unequal_toward<N: Readable, M: Measure>(
+fn witness_toward<N: Readable, M: Measure>(
     network: &N,
     measure: &M,
     table: &[u8],
@@ -57,8 +57,8 @@ fn unequal_toward<N: Readable, M: Measure>(
     requires table { ⌜ length (now table) ≡ N·Readable .meaning (now network) .nodes ⌝ }
     requires node { ⌜ z < length (now table) ⌝ }
     ensures { λ r. ⌜ BySome r
-        (Balanced (M·Measure .ops) (N·Readable .meaning (now (network .entry))) (role-in (now (table .entry))) (role-of (role-in (now (table .entry))) z))
-        (λ p. Unequal (M·Measure .ops) (N·Readable .meaning (now (network .entry))) (role-in (now (table .entry))) (p .0) (p .1) z) ⌝ }
+        (Balanced (M·Measure .ops) (N·Readable .meaning (now (network .entry))) (table-of (now (table .entry))) (mates (table-of (now (table .entry))) z))
+        (λ p. Unequal (M·Measure .ops) (N·Readable .meaning (now (network .entry))) (table-of (now (table .entry))) (p .0) (p .1) z) ⌝ }
 {
     for y in 0..table.len() {
         let x = head(table, y);
@@ -69,20 +69,20 @@ fn unequal_toward<N: Readable, M: Measure>(
     None
 }
 
-// Three nodes that show that the table is not regular.
-fn unequal<N: Readable, M: Measure>(
+// Three nodes that show that the table is not regular, or none where it is.
+fn witness<N: Readable, M: Measure>(
     network: &N,
     measure: &M,
     table: &[u8],
 ) -> Option<(usize, usize, usize)>
     requires { ⌜ length (now table) ≡ N·Readable .meaning (now network) .nodes ⌝ }
     ensures { λ r. ⌜ BySome r
-        (Regular (M·Measure .ops) (N·Readable .meaning (now (network .entry))) (role-in (now (table .entry))))
-        (λ w. Unequal (M·Measure .ops) (N·Readable .meaning (now (network .entry))) (role-in (now (table .entry))) (w .0) (w .1) (w .2)) ⌝ }
+        (Regular (M·Measure .ops) (N·Readable .meaning (now (network .entry))) (table-of (now (table .entry))))
+        (λ w. Unequal (M·Measure .ops) (N·Readable .meaning (now (network .entry))) (table-of (now (table .entry))) (w .0) (w .1) (w .2)) ⌝ }
 {
     for z in 0..table.len() {
         if head(table, z) == z {
-            if let Some((x, y)) = unequal_toward(network, measure, table, z) {
+            if let Some((x, y)) = witness_toward(network, measure, table, z) {
                 return Some((x, y, z));
             }
         }
@@ -102,5 +102,5 @@ pub fn vet<N: Readable, M: Measure>(
     if table.len() != network.nodes() {
         return Err(Fault::Length);
     }
-    Ok(unequal(network, measure, table))
+    Ok(witness(network, measure, table))
 }

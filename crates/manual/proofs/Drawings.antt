@@ -5,7 +5,7 @@ use Prim.Native.Nat.{ℕ, _+_, _<_}
 use lib.ListN.{length, take, getD}
 use Rattle.std.proofs.shelf.Sums.{folded-more}
 use Rattle.network.specs.Meaning.{Meaning}
-use Rattle.network.specs.Grid.{untied}
+use Rattle.network.specs.Matrices.{untied}
 use Rattle.network.specs.Put.{put-after}
 use Rattle.manual.specs.Drawing.{drawn-network}
 

@@ -3,7 +3,7 @@ use mathlib.Core.List.{List}
 use Prim.Native.Nat.{ℕ}
 use Rattle.std.specs.Iters.{folded}
 use Rattle.network.specs.Meaning.{Meaning}
-use Rattle.network.specs.Grid.{untied}
+use Rattle.network.specs.Matrices.{untied}
 use Rattle.network.specs.Put.{put-after}
 
 -- n nodes, and a tie of kind 0 for each pair

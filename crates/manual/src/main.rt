@@ -8,7 +8,7 @@ mod trouble;
 mod words;
 
 use drawing::drawn;
-use equivalence::literature::vet_kinds;
+use equivalence::classical::vet_kinds;
 use network::matrix::Matrix;
 use network::matrix::MatrixReadable;
 use trouble::Trouble;

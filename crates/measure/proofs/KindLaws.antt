@@ -1,15 +1,11 @@
 -- The laws of kinds. Assumes nothing.
-use mathlib.Core.Path.{_≡_, refl, sym, ap, _∙_}
+use mathlib.Core.Path.{_≡_, refl, ap}
 use mathlib.Core.HLevel.{isProp→PathP}
-use mathlib.Core.Bool.{Bool, true, false, _&&_, _||_}
-use Prim.Native.Nat.{ℕ, suc, _^_, _<_, _≤_}
+use Prim.Native.Nat.{_<_}
 use native.Mathlib.Bridge.{le-prop}
-use native.Mathlib.Omega.{arith}
-use lib.Bits.{bitOr, or-comm, or-zero-r, or-lt}
-use lib.Dec.{eqb}
-use Rattle.std.specs.Orderings.{Decides}
-use Rattle.std.proofs.shelf.Ways.{tells, decides-eqb, decides-and, decides-like}
-use Rattle.measure.specs.Measures.{Operations, Laws}
+use lib.Bits.{or-comm, or-zero-r}
+use Rattle.std.proofs.shelf.Ways.{decides-eqb, decides-and, decides-like}
+use Rattle.measure.specs.Measures.{Laws}
 use Rattle.measure.specs.Kinds.{kinds}
 use Rattle.measure.specs.declared.kinds.sets.KindSets.{KindSets}
 use Rattle.measure.proofs.Bits.{or-assoc-below}

@@ -1,5 +1,5 @@
 -- The measure kinds: which kinds of tie go out, and which come in. Assumes nothing.
-use mathlib.Core.Bool.{Bool, false, cond, _&&_}
+use mathlib.Core.Bool.{false, cond, _&&_}
 use Prim.Native.Nat.{ℕ, _-_, _%_}
 use lib.Bits.{bitOr, or-lt}
 use lib.Dec.{ltb, eqb}

@@ -1,5 +1,5 @@
 pub mod Counting
 pub mod Room
 pub mod Puts
-pub mod Grids
+pub mod Matrices
 pub mod Making

@@ -1,4 +1,4 @@
 pub mod Meaning
 pub mod Faults
 pub mod Put
-pub mod Grid
+pub mod Matrices

@@ -3,6 +3,8 @@
 --   Meaning       nodes, ties, allowed pairs and cap of a network
 --   inside        both numbers of a pair are nodes
 --   tied          the pair has a tie byte above 0
+--   sum-below     the sum of f k over each k below n
+--   count-below   how many k below n pass
 --   tied-pairs    how many pairs of nodes are tied
 use mathlib.Core.Bool.{Bool, cond, _&&_}
 use Prim.Native.Nat.{ℕ, zero, suc, _+_}
@@ -23,12 +25,10 @@ inside n i j = ltb i n && ltb j n
 abbrev pub tied : Meaning → ℕ → ℕ → Bool
 tied m i j = ltb 0 (m .tie i j)
 
--- the sum of f k over each k below n
 abbrev pub sum-below : (ℕ → ℕ) → ℕ → ℕ
 sum-below f zero = 0
 sum-below f (suc n) = sum-below f n + f n
 
--- how many k below n pass
 abbrev pub count-below : (ℕ → Bool) → ℕ → ℕ
 count-below p n = sum-below (λ k. cond (p k) 1 0) n
 

@@ -1,4 +1,4 @@
-// The refusals of a network, and the parts of the engine that refuse.
+// The refusals of a network, with their numbers and layer.
 ghost use mathlib.Core.Path.{_≡_};
 ghost use Rattle.network.specs.Faults.{number, layer};
 
@@ -13,14 +13,14 @@ pub enum Layer {
 #[derive(Clone, Copy, PartialEq, Eq, Debug)]
 pub enum Fault {
     // There are not 1 to 128 nodes.
-    Nodes,
+    Size,
     // The memory handed to the making is too short.
     Memory,
     // A node that is named is not below the number of nodes.
     Node,
     // The pair is not allowed.
     Pair,
-    // The pair is untied, and as many pairs are tied as the cap allows.
+    // The byte is not 0, the pair is untied, and as many pairs are tied as the cap allows.
     Full,
 }
 
@@ -29,7 +29,7 @@ impl Fault {
         ensures { λ r. ⌜ r ≡ number self ⌝ }
     {
         match self {
-            Fault::Nodes => 1,
+            Fault::Size => 1,
             Fault::Memory => 2,
             Fault::Node => 3,
             Fault::Pair => 4,

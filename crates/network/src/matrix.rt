@@ -3,7 +3,8 @@ ghost use mathlib.Core.Path.{_≡_};
 ghost use Prim.Native.Nat.{_*_, _≤_};
 ghost use lib.ListN.{length};
 ghost use Rattle.std.specs.Of.Vec.{vec-len, vec-items};
-ghost use Rattle.network.specs.Grid.{grid, grid-check, granted, cleared, untied, written, Never-full};
+ghost use Rattle.network.specs.Matrices.{matrix-of, matrix-check, granted, cleared, untied, written};
+ghost use Rattle.std.specs.declared.result.Result.the-variants.{Err};
 ghost use Rattle.network.specs.Put.{put-answer, put-after};
 use super::faults::Fault;
 use super::interface::Editable;
@@ -21,10 +22,10 @@ pub struct Matrix {
 impl Matrix {
     // Whether n nodes can be made over this memory.
     pub fn check(n: usize, memory: &[u8]) -> Result<(), Fault>
-        ensures { λ r. ⌜ r ≡ grid-check n (length (now (memory .entry))) ⌝ }
+        ensures { λ r. ⌜ r ≡ matrix-check n (length (now (memory .entry))) ⌝ }
     {
         if n == 0 || n > 128 {
-            return Err(Fault::Nodes);
+            return Err(Fault::Size);
         }
         if memory.len() < n * n {
             return Err(Fault::Memory);
@@ -34,9 +35,8 @@ impl Matrix {
 
     // The matrix of n nodes without ties. Where `check` refuses, the network without nodes, and nothing is written.
     pub fn new(n: usize, memory: Vec<u8>) -> Matrix
-        ensures meaning { λ r. ⌜ grid (r .n) (vec-items (r .bytes)) ≡ untied (granted n (vec-len memory)) ⌝ }
+        ensures meaning { λ r. ⌜ matrix-of (r .n) (vec-items (r .bytes)) ≡ untied (granted n (vec-len memory)) ⌝ }
         ensures memory { λ r. ⌜ vec-items (r .bytes) ≡ cleared (granted n (vec-len memory) * granted n (vec-len memory)) (vec-items memory) ⌝ }
-        ensures roomy { λ _. ⌜ Never-full ⌝ }
     {
         let mut bytes = memory;
         if Matrix::check(n, &bytes).is_err() {
@@ -58,7 +58,7 @@ impl Matrix {
 }
 
 pub impl Readable for Matrix as MatrixReadable {
-    ghost meaning = { λ m. grid (m .n) (vec-items (m .bytes)) };
+    ghost meaning = { λ m. matrix-of (m .n) (vec-items (m .bytes)) };
 
     fn nodes(&self) -> usize {
         self.n
@@ -74,10 +74,12 @@ pub impl Readable for Matrix as MatrixReadable {
 }
 
 pub impl Editable for Matrix as MatrixEditable {
+    // One byte at most differs. There is room for every pair, so `Full` never comes.
     fn put(&mut self, i: usize, j: usize, b: u8) -> Result<(), Fault>
-        ensures answer { λ r. ⌜ r ≡ put-answer (grid (now (self .entry) .n) (vec-items (now (self .entry) .bytes))) i j b ⌝ }
-        ensures after { λ _. ⌜ grid (now (self .exit) .n) (vec-items (now (self .exit) .bytes)) ≡ put-after (grid (now (self .entry) .n) (vec-items (now (self .entry) .bytes))) i j b ⌝ }
+        ensures answer { λ r. ⌜ r ≡ put-answer (matrix-of (now (self .entry) .n) (vec-items (now (self .entry) .bytes))) i j b ⌝ }
+        ensures after { λ _. ⌜ matrix-of (now (self .exit) .n) (vec-items (now (self .exit) .bytes)) ≡ put-after (matrix-of (now (self .entry) .n) (vec-items (now (self .entry) .bytes))) i j b ⌝ }
         ensures memory { λ _. ⌜ vec-items (now (self .exit) .bytes) ≡ written (now (self .entry) .n) (vec-items (now (self .entry) .bytes)) i j b ⌝ }
+        ensures roomy { λ r. ⌜ (r ≡ Err Fault.Full → ⊥) ⌝ }
     {
         if i >= self.n || j >= self.n {
             return Err(Fault::Node);

@@ -14,7 +14,7 @@ use std::test::*;
 
 #[test]
 fn each_fault_has_its_number() -> Result<(), Fail> {
-    check_eq(Fault::Nodes.number(), 1)?;
+    check_eq(Fault::Size.number(), 1)?;
     check_eq(Fault::Memory.number(), 2)?;
     check_eq(Fault::Node.number(), 3)?;
     check_eq(Fault::Pair.number(), 4)?;
@@ -36,9 +36,9 @@ fn a_matrix_clears_its_own_bytes_alone(rt: LibcRuntime) -> Result<(), Fail> {
 #[test]
 fn no_nodes_and_too_many_are_refused(rt: LibcRuntime) -> Result<(), Fail> {
     let memory = vec![in rt.alloc(); 7; 2]?;
-    check_eq(Matrix::check(0, &memory), Err(Fault::Nodes))?;
-    check_eq(Matrix::check(129, &memory), Err(Fault::Nodes))?;
-    check_eq(Matrix::check(usize::MAX, &memory), Err(Fault::Nodes))?;
+    check_eq(Matrix::check(0, &memory), Err(Fault::Size))?;
+    check_eq(Matrix::check(129, &memory), Err(Fault::Size))?;
+    check_eq(Matrix::check(usize::MAX, &memory), Err(Fault::Size))?;
     let network = Matrix::new(129, memory);
     check_eq(network.nodes(), 0)?;
     check(network.into_memory().as_slice() == &[7, 7])

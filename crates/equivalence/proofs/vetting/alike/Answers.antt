@@ -1,4 +1,3 @@
-use borrow.Author.Needs.{needs}
 use Rattle.equivalence.proofs.Balance.{same-decides}
 use Rattle.equivalence.proofs.vetting.alike.Needs as need
 

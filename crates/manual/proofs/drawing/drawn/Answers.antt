@@ -1,6 +1,5 @@
 use mathlib.Core.Path.{ap, _∙_}
 use borrow.Author.Needs.{needs}
-use lib.ListN.{take}
 use lib.Seq.{take-all}
 use Rattle.manual.specs.Drawing.{drawn-network}
 use Rattle.manual.proofs.Drawings.{drawn-more}

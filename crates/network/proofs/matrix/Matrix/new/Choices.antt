@@ -1,6 +1,6 @@
 use mathlib.Core.Path.{_≡_}
 use Rattle.std.specs.Of.Vec.{vec-items, vec-len}
-use Rattle.network.specs.Grid.{cleared}
+use Rattle.network.specs.Matrices.{cleared}
 use Rattle.network.proofs.matrix.Matrix.new.Given as given
 
 -- the bytes below k are 0, the others as handed

@@ -1,17 +1,17 @@
 use mathlib.Core.Path.{_≡_}
 use Prim.Native.Nat.{ℕ, _<_}
 use native.Mathlib.Omega.{arith}
-use Rattle.equivalence.specs.Regular.{role-of}
+use Rattle.equivalence.specs.Regular.{mates}
 use Rattle.equivalence.specs.Totals.{total}
-use Rattle.equivalence.specs.Vetted.{role-in}
+use Rattle.equivalence.specs.Vetted.{table-of}
 use Rattle.equivalence.proofs.Balance.{agree-more, agree-all}
-use Rattle.equivalence.proofs.vetting.unequal_toward.Needs as need
-use Rattle.equivalence.proofs.vetting.unequal_toward.Needs.{else-x-y·by·then-x-y·else-not-alike, else-x-y·by·else-x-y}
+use Rattle.equivalence.proofs.vetting.witness_toward.Needs as need
+use Rattle.equivalence.proofs.vetting.witness_toward.Needs.{else-x-y·by·then-x-y·else-not-alike, else-x-y·by·else-x-y}
 
 pub loop-y-again : need.loop-y-again
 loop-y-again g c =
-    let role = role-in (c .args .table .now) in
-    let value = λ (x : ℕ). total (g .M·Measure .ops) (g .N·Readable .meaning (c .args .network .now)) x (role-of role (c .args .z)) in
+    let role = table-of (c .args .table .now) in
+    let value = λ (x : ℕ). total (g .M·Measure .ops) (g .N·Readable .meaning (c .args .network .now)) x (mates role (c .args .z)) in
     let x = c .head-x .result in
     let y = c .loop-y .y in
     let here : x < y → value x ≡ value y =
@@ -25,5 +25,5 @@ loop-y-again g c =
 pub returns : need.returns
 returns g c =
     let m = g .N·Readable .meaning (c .args .network .now) in
-    let role = role-in (c .args .table .now) in
-    agree-all role (λ (x : ℕ). total (g .M·Measure .ops) m x (role-of role (c .args .z))) (c .loop-y .y) (m .nodes) (c .loop-y .inv) (omega arith)
+    let role = table-of (c .args .table .now) in
+    agree-all role (λ (x : ℕ). total (g .M·Measure .ops) m x (mates role (c .args .z))) (c .loop-y .y) (m .nodes) (c .loop-y .inv) (omega arith)

@@ -1,4 +1,4 @@
--- Regular equivalence as the literature defines it. Assumes nothing.
+-- Regular equivalence, by its classical definition. Assumes nothing.
 --
 --   Regular-equivalence    of a relation on n nodes: nodes of one role are related to nodes of the same roles
 --   tied-by                the relation 'i has a tie of kind k to j'

@@ -1,12 +1,12 @@
-// What regular means in the literature's own words, measure by measure.
+// What regular means under a measure, in the classical notion of its field.
 ghost use mathlib.Core.Path.{_≡_};
 ghost use mathlib.Core.Logic.{_↔_};
 ghost use lib.ListN.{length};
 ghost use Rattle.std.specs.declared.option.Option.the-variants.{None};
 ghost use Rattle.std.specs.declared.result.Result.the-variants.{Ok};
 ghost use Rattle.measure.specs.Kinds.{kinds};
-ghost use Rattle.equivalence.specs.Literature.{Regular-in-each, Regular-under-kinds};
-ghost use Rattle.equivalence.specs.Vetted.{Vetted, role-in};
+ghost use Rattle.equivalence.specs.Classical.{Regular-in-each, Regular-under-kinds};
+ghost use Rattle.equivalence.specs.Vetted.{Vetted, table-of};
 use super::faults::Fault;
 use super::vetting::vet;
 use measure::kinds::Kinds;
@@ -19,8 +19,8 @@ pub fn vet_kinds<N: Readable>(
     table: &[u8],
 ) -> Result<Option<(usize, usize, usize)>, Fault>
     ensures vetted { λ r. ⌜ Vetted kinds (N·Readable .meaning (now (network .entry))) (now (table .entry)) r ⌝ }
-    ensures textbook { λ r. ⌜ (r ≡ Ok None) ↔ ((length (now (table .entry)) ≡ N·Readable .meaning (now (network .entry)) .nodes)
-        × Regular-in-each (N·Readable .meaning (now (network .entry))) (role-in (now (table .entry)))) ⌝ }
+    ensures classical { λ r. ⌜ (r ≡ Ok None) ↔ ((length (now (table .entry)) ≡ N·Readable .meaning (now (network .entry)) .nodes)
+        × Regular-in-each (N·Readable .meaning (now (network .entry))) (table-of (now (table .entry)))) ⌝ }
     ensures theorem { λ _. ⌜ Regular-under-kinds ⌝ }
 {
     vet(network, &Kinds, table)
