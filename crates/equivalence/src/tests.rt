@@ -20,7 +20,7 @@ use std::test::*;
 
 // A matrix of n nodes with byte 1 for each tie.
 fn matrix(heap: Global, n: usize, ties: &[(usize, usize)]) -> Result<Matrix, Fail> {
-    let mut network = Matrix::new(n, vec![in heap; 0; 64]?);
+    let mut network = Matrix::new(n, vec![in heap; 0; 81]?);
     for (i, j) in ties {
         check(network.put(*i, *j, 1).is_ok())?;
     }
@@ -37,16 +37,49 @@ fn an_isolate_is_not_a_sink(rt: LibcRuntime) -> Result<(), Fail> {
 
 #[test]
 fn a_tie_more_joins_what_was_apart(rt: LibcRuntime) -> Result<(), Fail> {
-    let network = matrix(rt.alloc(), 3, &[(0, 1), (2, 1)])?;
+    let mut network = matrix(rt.alloc(), 3, &[(0, 1)])?;
+    check_eq(vet(&network, &Kinds, &[5, 9, 5]), Ok(Some((0, 2, 1))))?;
+    check(network.put(2, 1, 1).is_ok())?;
     check_eq(vet(&network, &Kinds, &[5, 9, 5]), Ok(None))?;
-    check_eq(vet(&network, &Kinds, &[0, 1, 1]), Ok(Some((1, 2, 0))))
+    check_eq(vet(&network, &Kinds, &[0, 0, 0]), Ok(Some((0, 1, 0))))
 }
 
 #[test]
 fn a_chain_keeps_its_nodes_apart(rt: LibcRuntime) -> Result<(), Fail> {
     let network = matrix(rt.alloc(), 3, &[(0, 1), (1, 2)])?;
     check_eq(vet(&network, &Kinds, &[0, 1, 2]), Ok(None))?;
-    check(vet(&network, &Kinds, &[0, 1, 0]) == Ok(Some((0, 2, 1))))
+    check_eq(vet(&network, &Kinds, &[0, 1, 0]), Ok(Some((0, 2, 1))))?;
+    let nine = [
+        (0, 1),
+        (1, 2),
+        (2, 3),
+        (3, 4),
+        (4, 5),
+        (5, 6),
+        (6, 7),
+        (7, 8),
+    ];
+    let network = matrix(rt.alloc(), 9, &nine)?;
+    check_eq(
+        vet(&network, &Kinds, &[0, 1, 2, 3, 4, 5, 6, 7, 8]),
+        Ok(None),
+    )?;
+    check(vet(&network, &Kinds, &[0, 1, 2, 3, 4, 3, 6, 7, 8]) != Ok(None))
+}
+
+#[test]
+fn roles_need_not_have_equal_numbers_of_ties(rt: LibcRuntime) -> Result<(), Fail> {
+    let network = matrix(rt.alloc(), 5, &[(0, 1), (0, 2), (3, 4)])?;
+    check_eq(vet(&network, &Kinds, &[0, 1, 1, 0, 1]), Ok(None))?;
+    let cycles = matrix(rt.alloc(), 5, &[(0, 1), (1, 2), (2, 0), (3, 4), (4, 3)])?;
+    check_eq(vet(&cycles, &Kinds, &[6, 6, 6, 6, 6]), Ok(None))
+}
+
+#[test]
+fn without_ties_every_table_is_regular(rt: LibcRuntime) -> Result<(), Fail> {
+    let network = matrix(rt.alloc(), 4, &[])?;
+    check_eq(vet(&network, &Kinds, &[0, 0, 0, 0]), Ok(None))?;
+    check_eq(vet(&network, &Kinds, &[0, 1, 0, 1]), Ok(None))
 }
 
 #[test]
@@ -74,7 +107,10 @@ fn a_table_of_another_length_is_refused(rt: LibcRuntime) -> Result<(), Fail> {
     check_eq(vet(&network, &Kinds, &[0, 1, 2, 3]), Err(Fault::Length))?;
     check_eq(vet_kinds(&network, &[]), Err(Fault::Length))?;
     check_eq(Fault::Length.number(), 10)?;
-    check_eq(Fault::Length.layer(), Layer::Vet)
+    check_eq(Fault::Length.layer(), Layer::Vet)?;
+    let memory = network.into_memory();
+    check(memory.len() == 81)?;
+    check_eq(memory[1], 1)
 }
 
 #[test]

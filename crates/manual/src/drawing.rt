@@ -1,23 +1,31 @@
 // A network as a page draws it.
 ghost use mathlib.Core.Path.{_≡_};
-ghost use Rattle.std.specs.Of.Vec.{vec-items};
-ghost use Rattle.std.specs.Vec.{made};
+ghost use Rattle.std.specs.Of.Vec.{vec-items, vec-len};
+ghost use Rattle.std.specs.Results.{Cases};
+ghost use Rattle.std.specs.declared.result.Result.the-variants.{Ok, Err};
 ghost use Rattle.network.specs.Matrices.{matrix-of};
-ghost use Rattle.manual.specs.Drawing.{drawn-network};
-use super::trouble::Trouble;
-use super::trouble::TroubleFromNetwork;
+ghost use Rattle.manual.specs.Drawing.{drawn-from, drawing};
+use network::faults::Fault;
 use network::interface::Editable;
 use network::matrix::Matrix;
 use network::matrix::MatrixEditable;
 
-// The matrix of n nodes over the memory, with a tie of kind 0 for each pair, built through the calls.
-pub fn drawn(n: usize, memory: Vec<u8>, ties: &[(usize, usize)]) -> Result<Matrix, Trouble>
-    ensures { λ r. ⌜ made r (λ m. matrix-of (m .n) (vec-items (m .bytes)) ≡ drawn-network n (now (ties .entry))) ⌝ }
+// Puts byte 1 for each pair, in order, up to the first refusal.
+fn tie_all<N: Editable>(network: &mut N, ties: &[(usize, usize)]) -> Result<(), Fault>
+    ensures { λ r. ⌜ Cases r (λ _. drawn-from (N·Readable .meaning (now (network .entry))) (now (ties .entry)) ≡ Ok (N·Readable .meaning (now (network .exit)))) (λ f. drawn-from (N·Readable .meaning (now (network .entry))) (now (ties .entry)) ≡ Err f) ⌝ }
 {
-    Matrix::check(n, &memory)?;
-    let mut network = Matrix::new(n, memory);
     for (i, j) in ties {
         network.put(*i, *j, 1)?;
     }
+    Ok(())
+}
+
+// The matrix of n nodes over the memory, with a tie of kind 0 for each pair, built through the calls.
+pub(crate) fn drawn(n: usize, memory: Vec<u8>, ties: &[(usize, usize)]) -> Result<Matrix, Fault>
+    ensures { λ r. ⌜ Cases r (λ m. drawing n (vec-len memory) (now (ties .entry)) ≡ Ok (matrix-of (m .n) (vec-items (m .bytes)))) (λ f. drawing n (vec-len memory) (now (ties .entry)) ≡ Err f) ⌝ }
+{
+    Matrix::check(n, &memory)?;
+    let mut network = Matrix::new(n, memory);
+    tie_all(&mut network, ties)?;
     Ok(network)
 }

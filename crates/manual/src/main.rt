@@ -9,6 +9,7 @@ mod words;
 
 use drawing::drawn;
 use equivalence::classical::vet_kinds;
+use network::interface::Readable;
 use network::matrix::Matrix;
 use network::matrix::MatrixReadable;
 use trouble::Trouble;
@@ -17,28 +18,35 @@ use trouble::TroubleDisplay;
 use trouble::TroubleError;
 use trouble::TroubleFromAlloc;
 use trouble::TroubleFromIo;
+use trouble::TroubleFromNetwork;
 use trouble::TroubleFromVet;
 
+// Prints the nodes and ties of a network.
+fn show(rt: &LibcRuntime, name: &str, network: &Matrix) -> Result<(), Trouble> {
+    let n = network.nodes();
+    let ties = words::ties(rt.alloc(), network)?;
+    println!(rt, "The {name} network has {n} nodes: {ties}.")?;
+    Ok(())
+}
+
 // Vets a table under kinds, and prints what comes of it.
-fn judge(rt: &LibcRuntime, page: &Matrix, name: &str, table: &[u8]) -> Result<(), Trouble> {
+fn judge(rt: &LibcRuntime, network: &Matrix, name: &str, table: &[u8]) -> Result<(), Trouble> {
     let roles = words::listed(rt.alloc(), table)?;
-    let verdict = words::verdict(rt.alloc(), vet_kinds(page, table)?)?;
-    println!(rt, "  {name} roles {roles} {verdict}")?;
+    let verdict = words::verdict(rt.alloc(), vet_kinds(network, table)?)?;
+    println!(rt, "  The {name} roles {roles} {verdict}")?;
     Ok(())
 }
 
 fn settle(rt: &LibcRuntime) -> Result<(), Trouble> {
     let heap = rt.alloc();
     let first = drawn(3, vec![in heap; 0; 9]?, &[(0, 1), (1, 2)])?;
-    let ties = words::ties(heap, &first)?;
-    println!(rt, "The first network has 3 nodes: {ties}.")?;
-    judge(rt, &first, "The draft's", &[0, 1, 2])?;
+    show(rt, "first", &first)?;
+    judge(rt, &first, "draft's", &[0, 1, 2])?;
 
     let second = drawn(3, vec![in heap; 0; 9]?, &[(0, 1)])?;
-    let ties = words::ties(heap, &second)?;
-    println!(rt, "The second network has 3 nodes: {ties}.")?;
-    judge(rt, &second, "The draft's", &[0, 1, 1])?;
-    judge(rt, &second, "The corrected", &[0, 1, 2])
+    show(rt, "second", &second)?;
+    judge(rt, &second, "draft's", &[0, 1, 1])?;
+    judge(rt, &second, "corrected", &[0, 1, 2])
 }
 
 fn main(rt: LibcRuntime) -> Result<(), Trouble> {

@@ -17,7 +17,10 @@ fn reason(heap: Global, x: usize, y: usize, z: usize) -> Result<String, AllocErr
 }
 
 // What the vet's answer says of a table.
-pub fn verdict(heap: Global, answer: Option<(usize, usize, usize)>) -> Result<String, AllocError>
+pub(crate) fn verdict(
+    heap: Global,
+    answer: Option<(usize, usize, usize)>,
+) -> Result<String, AllocError>
     ensures { λ r. ⌜ made r (λ s. string-bytes s ≡ verdict-words answer) ⌝ }
 {
     match answer {
@@ -35,7 +38,7 @@ fn add(all: &mut String, part: &str) -> Result<(), AllocError> {
 }
 
 // The roles of the nodes, in order.
-pub fn listed(heap: Global, table: &[u8]) -> Result<String, AllocError> {
+pub(crate) fn listed(heap: Global, table: &[u8]) -> Result<String, AllocError> {
     let mut all = String::new(heap);
     for role in table {
         add(&mut all, &format!(heap, "{role}")?)?;
@@ -54,7 +57,7 @@ fn isolated<N: Readable>(network: &N, x: usize) -> bool {
 }
 
 // Each tied pair of the network, and each node without a tie.
-pub fn ties<N: Readable>(heap: Global, network: &N) -> Result<String, AllocError> {
+pub(crate) fn ties<N: Readable>(heap: Global, network: &N) -> Result<String, AllocError> {
     let mut all = String::new(heap);
     let n = network.nodes();
     for i in 0..n {

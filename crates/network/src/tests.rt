@@ -39,9 +39,11 @@ fn no_nodes_and_too_many_are_refused(rt: LibcRuntime) -> Result<(), Fail> {
     check_eq(Matrix::check(0, &memory), Err(Fault::Size))?;
     check_eq(Matrix::check(129, &memory), Err(Fault::Size))?;
     check_eq(Matrix::check(usize::MAX, &memory), Err(Fault::Size))?;
-    let network = Matrix::new(129, memory);
-    check_eq(network.nodes(), 0)?;
-    check(network.into_memory().as_slice() == &[7, 7])
+    let none = Matrix::new(0, memory);
+    check_eq(none.nodes(), 0)?;
+    let many = Matrix::new(129, none.into_memory());
+    check_eq(many.nodes(), 0)?;
+    check(many.into_memory().as_slice() == &[7, 7])
 }
 
 #[test]
