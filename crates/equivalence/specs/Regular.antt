@@ -1,7 +1,7 @@
 -- When a table is regular. Assumes nothing.
 --
 --   Table       the role of each node; its roles are those that it gives to some node, so none is empty
---   mates     the set of the nodes that share z's role
+--   mates       the set of the nodes that share z's role
 --   Balanced    two nodes of one role have equal totals toward the set
 --   Regular     two nodes of one role have equal totals toward every role
 --   Unequal     x and y share a role, and have unequal totals toward z's role

@@ -1,4 +1,4 @@
-// What a network tells, and what an open one takes.
+// What a network tells, and what an editable one takes.
 ghost use mathlib.Core.Path.{_≡_};
 ghost use mathlib.Core.Bool.{false};
 ghost use Prim.Native.Nat.{_≤_};
