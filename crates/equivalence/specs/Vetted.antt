@@ -1,7 +1,7 @@
 -- What the vet answers. Assumes nothing.
 --
 --   table-of    the table that a list of bytes is: equal bytes are one role
---   Vetted     r is an answer of the vet
+--   Vetted      r is an answer of the vet
 use mathlib.Core.Path.{_≡_}
 use mathlib.Core.Logic.{_↔_}
 use mathlib.Core.List.{List}
