@@ -2,6 +2,8 @@
 ghost use mathlib.Core.Path.{_≡_};
 ghost use Rattle.std.specs.Of.String.{string-bytes};
 ghost use Rattle.std.specs.Vec.{made};
+ghost use Rattle.std.specs.Orderings.{Decides};
+ghost use Rattle.manual.specs.Drawing.{Isolated};
 ghost use Rattle.manual.specs.Words.{reason-words, verdict-words};
 use network::interface::Readable;
 use std::alloc::AllocError;
@@ -47,7 +49,9 @@ pub(crate) fn listed(heap: Global, table: &[u8]) -> Result<String, AllocError> {
 }
 
 // Whether x has no tie, out or in.
-fn isolated<N: Readable>(network: &N, x: usize) -> bool {
+fn isolated<N: Readable>(network: &N, x: usize) -> bool
+    ensures { λ r. ⌜ Decides r (Isolated (meaning (now (network .entry))) x) ⌝ }
+{
     for y in 0..network.nodes() {
         if network.tie(x, y) > 0 || network.tie(y, x) > 0 {
             return false;
