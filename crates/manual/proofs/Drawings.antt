@@ -11,7 +11,7 @@ use Rattle.network.specs.Put.{put-answer, put-after}
 use Rattle.network.specs.declared.faults.Fault.{Fault}
 use Rattle.manual.specs.Drawing.{drawn-from}
 
-abbrev then : Meaning → ℕ → ℕ → List (ℕ × ℕ) → Result (Unit {0}) Fault → Result Meaning Fault
+abbrev pub then : Meaning → ℕ → ℕ → List (ℕ × ℕ) → Result (Unit {0}) Fault → Result Meaning Fault
 then m i j ts r = elim r [ Ok _ ↦ drawn-from (put-after m i j 1) ts | Err f ↦ Err f ]
 
 -- the next pair is accepted, or refused

@@ -1,1 +1,2 @@
 pub mod Drawings
+pub mod DrawnTies

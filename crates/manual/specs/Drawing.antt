@@ -2,9 +2,13 @@
 --
 --   drawn-from    the network after a put of byte 1 for each pair, in order, or the first refusal
 --   drawing       the same from n nodes without ties, over memory of so many bytes
+--   among         the pair is one of the list
+--   Drawn         a drawing that is not refused ties the pairs of the list, and no other
 --   Isolated      x has no tie, out or in
 use mathlib.Core.Path.{_≡_}
+use mathlib.Core.Bool.{Bool, false, cond, _&&_, _||_}
 use mathlib.Core.List.{List, [], _∷_}
+use lib.Dec.{eqb}
 use Prim.Native.Nat.{ℕ, _<_}
 use Rattle.std.specs.declared.result.Result.{Result}
 use Rattle.std.specs.declared.result.Result.the-variants.{Ok, Err}
@@ -19,6 +23,13 @@ drawn-from m (t ∷ ts) = elim (put-answer m (t .0) (t .1) 1) [ Ok _ ↦ drawn-f
 
 abbrev pub drawing : ℕ → ℕ → List (ℕ × ℕ) → Result Meaning Fault
 drawing n size ties = elim (matrix-check n size) [ Ok _ ↦ drawn-from (untied n) ties | Err f ↦ Err f ]
+
+abbrev pub among : List (ℕ × ℕ) → ℕ → ℕ → Bool
+among [] x y = false
+among (t ∷ ts) x y = among ts x y || (eqb x (t .0) && eqb y (t .1))
+
+abbrev pub Drawn : Type 0
+Drawn = (n size : ℕ) (ties : List (ℕ × ℕ)) (m : Meaning) → drawing n size ties ≡ Ok m → (x y : ℕ) → m .tie x y ≡ cond (among ties x y) 1 0
 
 abbrev pub Isolated : Meaning → ℕ → Type 0
 Isolated m x = (y : ℕ) → y < m .nodes → (m .tie x y ≡ 0) × (m .tie y x ≡ 0)

@@ -4,7 +4,7 @@ ghost use Rattle.std.specs.Of.Vec.{vec-items, vec-len};
 ghost use Rattle.std.specs.Results.{Cases};
 ghost use Rattle.std.specs.declared.result.Result.the-variants.{Ok, Err};
 ghost use Rattle.network.specs.Matrices.{matrix-of};
-ghost use Rattle.manual.specs.Drawing.{drawn-from, drawing};
+ghost use Rattle.manual.specs.Drawing.{drawn-from, drawing, Drawn};
 use network::faults::Fault;
 use network::interface::Editable;
 use network::matrix::Matrix;
@@ -22,7 +22,8 @@ fn tie_all<N: Editable>(network: &mut N, ties: &[(usize, usize)]) -> Result<(), 
 
 // The matrix of n nodes over the memory, with a tie of kind 0 for each pair, built through the calls.
 pub(crate) fn drawn(n: usize, memory: Vec<u8>, ties: &[(usize, usize)]) -> Result<Matrix, Fault>
-    ensures { λ r. ⌜ Cases r (λ m. drawing n (vec-len memory) (now (ties .entry)) ≡ Ok (matrix-of (m .n) (vec-items (m .bytes)))) (λ f. drawing n (vec-len memory) (now (ties .entry)) ≡ Err f) ⌝ }
+    ensures built { λ r. ⌜ Cases r (λ m. drawing n (vec-len memory) (now (ties .entry)) ≡ Ok (matrix-of (m .n) (vec-items (m .bytes)))) (λ f. drawing n (vec-len memory) (now (ties .entry)) ≡ Err f) ⌝ }
+    ensures law { λ _. ⌜ Drawn ⌝ }
 {
     Matrix::check(n, &memory)?;
     let mut network = Matrix::new(n, memory);
