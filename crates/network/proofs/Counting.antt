@@ -1,12 +1,54 @@
--- Bounds on sums and counts over the numbers below n. Assumes nothing.
-use mathlib.Core.Path.{_≡_}
+-- Laws and bounds of sums and counts over the numbers below n. Assumes nothing.
+use mathlib.Core.Path.{_≡_, refl, sym, ap, ap₂, _∙_}
 use mathlib.Core.Bool.{Bool, true, false, cond}
 use mathlib.Core.Logic.{inl, inr}
-use Prim.Native.Nat.{ℕ, zero, suc, _*_, _≤_, _<_}
-use native.Mathlib.Nat.{suc-mul}
+use Prim.Native.Nat.{ℕ, zero, suc, _+_, _-_, _*_, _≤_, _<_}
+use native.Mathlib.Nat.{suc-mul, add-zero, add-suc}
 use native.Mathlib.Omega.{arith}
 use Rattle.std.proofs.shelf.Tests.{cases-lt}
 use Rattle.network.specs.Meaning.{sum-below, count-below}
+
+pub sum-below-same : (f g : ℕ → ℕ) (n : ℕ) → ((k : ℕ) → k < n → f k ≡ g k) → sum-below f n ≡ sum-below g n
+sum-below-same f g zero h = refl
+sum-below-same f g (suc n) h = ap₂ _+_ (sum-below-same f g n (λ k l. h k (omega arith))) (h n (omega arith))
+
+pub sum-below-none : (f : ℕ → ℕ) (n : ℕ) → ((k : ℕ) → k < n → f k ≡ 0) → sum-below f n ≡ 0
+sum-below-none f zero h = refl
+sum-below-none f (suc n) h = omega (arith, sum-below-none f n (λ k l. h k (omega arith)), h n (omega arith))
+
+pub sum-below-plus : (f g : ℕ → ℕ) (n : ℕ) → sum-below (λ k. f k + g k) n ≡ sum-below f n + sum-below g n
+sum-below-plus f g zero = omega arith
+sum-below-plus f g (suc n) = omega (arith, sum-below-plus f g n)
+
+-- a double sum, by rows or by columns
+pub sum-below-swap : (f : ℕ → ℕ → ℕ) (m n : ℕ) → sum-below (λ i. sum-below (λ j. f i j) n) m ≡ sum-below (λ j. sum-below (λ i. f i j) m) n
+sum-below-swap f m zero = sum-below-none (λ _. 0) m (λ _ _. refl)
+sum-below-swap f m (suc n) =
+    sum-below-plus (λ i. sum-below (λ j. f i j) n) (λ i. f i n) m ∙ ap (λ k. k + sum-below (λ i. f i n) m) (sum-below-swap f m n)
+
+sum-below-add : (f : ℕ → ℕ) (m n : ℕ) → sum-below f (m + n) ≡ sum-below f m + sum-below (λ k. f (m + k)) n
+sum-below-add f m zero = rw (add-zero m) (omega arith)
+sum-below-add f m (suc n) = rw add-suc (omega (arith, sum-below-add f m n))
+
+-- summands that are 0 off the width numbers from lo on
+pub sum-below-window :
+    (f : ℕ → ℕ) (lo width n : ℕ)
+    → lo + width ≤ n
+    → ((k : ℕ) → k < lo → f k ≡ 0)
+    → ((k : ℕ) → lo + width ≤ k → f k ≡ 0)
+    → sum-below f n ≡ sum-below (λ k. f (lo + k)) width
+sum-below-window f lo width n le before past =
+    let rest = n - (lo + width) in
+    let all : (lo + width) + rest ≡ n = omega arith in
+    let late = sum-below-none (λ k. f ((lo + width) + k)) rest (λ k _. past ((lo + width) + k) (omega arith)) in
+    omega (
+      arith,
+      ap (sum-below f) all,
+      sum-below-add f (lo + width) rest,
+      sum-below-add f lo width,
+      sum-below-none f lo before,
+      late,
+    )
 
 pub sum-below-le : (f : ℕ → ℕ) (c n : ℕ) → ((k : ℕ) → k < n → f k ≤ c) → sum-below f n ≤ n * c
 sum-below-le f c zero h = omega arith

@@ -1,4 +1,5 @@
 pub mod Meaning
 pub mod Faults
 pub mod Put
+pub mod Memory
 pub mod Matrices

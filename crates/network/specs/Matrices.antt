@@ -4,16 +4,15 @@
 --   written         the bytes after a put
 --   matrix-check    whether n nodes fit into so many bytes
 --   granted         how many nodes a making gives
---   cleared         the first bytes set to 0
 use mathlib.Core.Bool.{true, cond, _&&_}
-use mathlib.Core.List.{List, _++_}
+use mathlib.Core.List.{List}
 use Prim.Native.Nat.{ℕ, _+_, _*_}
 use lib.Dec.{ltb, leb}
-use lib.ListN.{getD, set, drop, replicate}
+use lib.ListN.{getD}
 use Rattle.std.specs.declared.result.Result.{Result}
 use Rattle.std.specs.declared.result.Result.the-variants.{Ok, Err}
 use Rattle.network.specs.Meaning.{Meaning, inside}
-use Rattle.network.specs.Put.{put-answer}
+use Rattle.network.specs.Memory.{written-at}
 use Rattle.network.specs.declared.faults.Fault.{Fault}
 
 -- n nodes with these ties: every pair is allowed, and the cap is n * n
@@ -26,7 +25,7 @@ matrix-of n bytes = every-pair n (λ i j. cond (inside n i j) (getD bytes (i * n
 
 -- one byte differs where the put is accepted, none where it is refused
 abbrev pub written : ℕ → List ℕ → ℕ → ℕ → ℕ → List ℕ
-written n bytes i j b = elim (put-answer (matrix-of n bytes) i j b) [ Ok _ ↦ set bytes (i * n + j) b | Err _ ↦ bytes ]
+written n bytes i j b = written-at (i * n + j) (matrix-of n bytes) bytes i j b
 
 -- accepted, or the first no of: 1 to 128 nodes (1), memory of n * n bytes (2)
 abbrev pub matrix-check : ℕ → ℕ → Result (Unit {0}) Fault
@@ -39,7 +38,3 @@ granted n bytes = elim (matrix-check n bytes) [ Ok _ ↦ n | Err _ ↦ 0 ]
 -- n nodes without a tie
 abbrev pub untied : ℕ → Meaning
 untied n = every-pair n (λ _ _. 0)
-
--- the first k bytes are 0, the others as before
-abbrev pub cleared : ℕ → List ℕ → List ℕ
-cleared k bytes = replicate k 0 ++ drop k bytes

@@ -4,11 +4,13 @@ ghost use Prim.Native.Nat.{_*_, _≤_};
 ghost use lib.ListN.{length};
 ghost use Rattle.std.specs.Of.Vec.{vec-len, vec-items};
 ghost use Rattle.std.specs.declared.result.Result.the-variants.{Err};
-ghost use Rattle.network.specs.Matrices.{matrix-of, matrix-check, granted, cleared, untied, written};
+ghost use Rattle.network.specs.Matrices.{matrix-of, matrix-check, granted, untied, written};
+ghost use Rattle.network.specs.Memory.{cleared};
 ghost use Rattle.network.specs.Put.{put-answer, put-after};
 use super::faults::Fault;
 use super::interface::Editable;
 use super::interface::Readable;
+use super::memory::clear;
 
 // The byte from i to j stands at i * n + j.
 #[derive(Drop)]
@@ -42,9 +44,7 @@ impl Matrix {
         if Matrix::check(n, &bytes).is_err() {
             return Matrix { n: 0, bytes };
         }
-        for k in 0..n * n {
-            bytes[k] = 0;
-        }
+        clear(&mut bytes, n * n);
         Matrix { n, bytes }
     }
 

@@ -4,19 +4,16 @@ use Prim.Native.Nat.{_*_}
 use borrow.Author.Needs.{needs}
 use Rattle.std.specs.Results.{isErr}
 use Rattle.std.specs.Of.Vec.{vec-items, vec-len}
-use Rattle.std.proofs.shelf.Edits.{fill-more}
-use Rattle.network.specs.Matrices.{matrix-check, cleared}
+use Rattle.network.specs.Matrices.{matrix-check}
+use Rattle.network.specs.Memory.{cleared}
 use Rattle.network.proofs.Making.{made-untied, made-cleared}
 use Rattle.network.proofs.matrix.Matrix.new.Needs as need
-
-pub loop-k-again : need.loop-k-again
-loop-k-again c = search (needs, fill-more)
 
 pub returns : need.returns
 returns c =
     let n = c .args .n in
     let memory = c .args .memory in
-    let bytes = vec-items (c .loop-k .bytes) in
+    let bytes = vec-items (c .clear .last .bytes) in
     let passed : isErr (matrix-check n (vec-len memory)) ≡ false = search needs in
     let filled : bytes ≡ cleared (n * n) (vec-items memory) = search needs in
     record {
