@@ -3,3 +3,5 @@ pub mod Faults
 pub mod Put
 pub mod Memory
 pub mod Matrices
+pub mod TwoModes
+pub mod Layers
