@@ -10,7 +10,7 @@ ghost use Rattle.network.specs.Put.{put-answer, put-after};
 use super::faults::Fault;
 use super::interface::Editable;
 use super::interface::Readable;
-use super::memory::clear;
+use super::memory::zero_out;
 
 // The byte from i to j stands at i * n + j.
 #[derive(Drop)]
@@ -44,7 +44,7 @@ impl Matrix {
         if Matrix::check(n, &bytes).is_err() {
             return Matrix { n: 0, bytes };
         }
-        clear(&mut bytes, n * n);
+        zero_out(&mut bytes, n * n);
         Matrix { n, bytes }
     }
 

@@ -10,7 +10,7 @@ ghost use Rattle.network.specs.TwoModes.{across, two-mode-of, two-mode-check, 
 use super::faults::Fault;
 use super::interface::Editable;
 use super::interface::Readable;
-use super::memory::clear;
+use super::memory::zero_out;
 
 // Side A has the nodes below a, side B the b nodes from a on. The byte from i to j stands at i * b + (j - a).
 #[derive(Drop)]
@@ -45,7 +45,7 @@ impl TwoMode {
         if TwoMode::check(a, b, &bytes).is_err() {
             return TwoMode { a: 0, b: 0, bytes };
         }
-        clear(&mut bytes, a * b);
+        zero_out(&mut bytes, a * b);
         TwoMode { a, b, bytes }
     }
 

@@ -13,7 +13,7 @@ pub returns : need.returns
 returns c =
     let n = c .args .n in
     let memory = c .args .memory in
-    let bytes = vec-items (c .clear .last .bytes) in
+    let bytes = vec-items (c .zero-out .last .bytes) in
     let passed : isErr (matrix-check n (vec-len memory)) ≡ false = search needs in
     let filled : bytes ≡ cleared (n * n) (vec-items memory) = search needs in
     record {

@@ -14,7 +14,7 @@ returns c =
     let a = c .args .a in
     let b = c .args .b in
     let memory = c .args .memory in
-    let bytes = vec-items (c .clear .last .bytes) in
+    let bytes = vec-items (c .zero-out .last .bytes) in
     let passed : isErr (two-mode-check a b (vec-len memory)) ≡ false = search needs in
     let filled : bytes ≡ cleared (a * b) (vec-items memory) = search needs in
     record {

@@ -1,7 +1,7 @@
 use mathlib.Core.Path.{_≡_}
 use Rattle.std.specs.Of.Vec.{vec-items, vec-len}
 use Rattle.network.specs.Memory.{cleared}
-use Rattle.network.proofs.memory.clear.Given as given
+use Rattle.network.proofs.memory.zero_out.Given as given
 
 -- the bytes below p are 0, the others as handed
 abbrev pub Inv-loop-p : given.InvT-loop-p
