@@ -1,5 +1,5 @@
 -- Laws and bounds of sums and counts over the numbers below n. Assumes nothing.
-use mathlib.Core.Path.{_≡_, refl, sym, ap, ap₂, _∙_}
+use mathlib.Core.Path.{_≡_, refl, ap, _∙_}
 use mathlib.Core.Bool.{Bool, true, false, cond}
 use mathlib.Core.Logic.{inl, inr}
 use Prim.Native.Nat.{ℕ, zero, suc, _+_, _-_, _*_, _≤_, _<_}
@@ -8,15 +8,11 @@ use native.Mathlib.Omega.{arith}
 use Rattle.std.proofs.shelf.Tests.{cases-lt}
 use Rattle.network.specs.Meaning.{sum-below, count-below}
 
-pub sum-below-same : (f g : ℕ → ℕ) (n : ℕ) → ((k : ℕ) → k < n → f k ≡ g k) → sum-below f n ≡ sum-below g n
-sum-below-same f g zero h = refl
-sum-below-same f g (suc n) h = ap₂ _+_ (sum-below-same f g n (λ k l. h k (omega arith))) (h n (omega arith))
-
 pub sum-below-none : (f : ℕ → ℕ) (n : ℕ) → ((k : ℕ) → k < n → f k ≡ 0) → sum-below f n ≡ 0
 sum-below-none f zero h = refl
 sum-below-none f (suc n) h = omega (arith, sum-below-none f n (λ k l. h k (omega arith)), h n (omega arith))
 
-pub sum-below-plus : (f g : ℕ → ℕ) (n : ℕ) → sum-below (λ k. f k + g k) n ≡ sum-below f n + sum-below g n
+sum-below-plus : (f g : ℕ → ℕ) (n : ℕ) → sum-below (λ k. f k + g k) n ≡ sum-below f n + sum-below g n
 sum-below-plus f g zero = omega arith
 sum-below-plus f g (suc n) = omega (arith, sum-below-plus f g n)
 
@@ -38,17 +34,11 @@ pub sum-below-window :
     → ((k : ℕ) → lo + width ≤ k → f k ≡ 0)
     → sum-below f n ≡ sum-below (λ k. f (lo + k)) width
 sum-below-window f lo width n le before past =
-    let rest = n - (lo + width) in
-    let all : (lo + width) + rest ≡ n = omega arith in
-    let late = sum-below-none (λ k. f ((lo + width) + k)) rest (λ k _. past ((lo + width) + k) (omega arith)) in
-    omega (
-      arith,
-      ap (sum-below f) all,
-      sum-below-add f (lo + width) rest,
-      sum-below-add f lo width,
-      sum-below-none f lo before,
-      late,
-    )
+    let to = lo + width in
+    let rest = n - to in
+    let all : to + rest ≡ n = omega arith in
+    let late = sum-below-none (λ k. f (to + k)) rest (λ k _. past (to + k) (omega arith)) in
+    omega (arith, ap (sum-below f) all, sum-below-add f to rest, sum-below-add f lo width, sum-below-none f lo before)
 
 pub sum-below-le : (f : ℕ → ℕ) (c n : ℕ) → ((k : ℕ) → k < n → f k ≤ c) → sum-below f n ≤ n * c
 sum-below-le f c zero h = omega arith

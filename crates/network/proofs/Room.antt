@@ -1,5 +1,5 @@
 -- Where every pair that can be tied may be tied at a time, there is always room for one more. Assumes nothing.
-use mathlib.Core.Path.{_≡_, sym}
+use mathlib.Core.Path.{_≡_}
 use mathlib.Core.Bool.{true, false, cond}
 use Prim.Native.Nat.{ℕ, _+_, _-_, _*_, _≤_, _<_}
 use native.Mathlib.Nat.{zero-add}
@@ -33,12 +33,10 @@ module _
   tied-pairs-lt i j hi from to free =
       let row : ℕ → ℕ = λ k. count-below (tied m k) (m .nodes) in
       let column : lo + (j - lo) ≡ j = omega arith in
-      let short : row i < width =
-      omega (arith, row-count i, count-below-lt (λ k. tied m i (lo + k)) width (j - lo) (omega arith) (rw column free))
-      in
-      let rest = sum-below-window row 0 rows (m .nodes) (omega arith) (λ k none. omega arith) (λ k past. row-count-none k (omega arith)) in
-      let here : row (0 + i) < width = rw zero-add short in
-      omega (arith, rest, sum-below-lt (λ k. row (0 + k)) width rows (λ k _. row-count-le (0 + k)) i hi here)
+      let missing = count-below-lt (λ k. tied m i (lo + k)) width (j - lo) (omega arith) (rw column free) in
+      let short : row (0 + i) < width = rw zero-add (omega (arith, row-count i)) in
+      let all = sum-below-window row 0 rows (m .nodes) (omega arith) (λ k none. omega arith) (λ k past. row-count-none k (omega arith)) in
+      omega (arith, sum-below-lt (λ k. row (0 + k)) width rows (λ k _. row-count-le (0 + k)) i hi short)
 
   pub room-within : (i j b : ℕ) → i < rows → lo ≤ j → j < lo + width → rows * width ≤ m .capacity → room m i j b ≡ true
   room-within i j b hi from to cap = grind (arith, tells, tied-pairs-lt i j hi from to)

@@ -38,11 +38,8 @@ two-mode-layout a b =
 pub two-mode-cleared : (a b : ℕ) (bytes : List ℕ) → two-mode-of a b (cleared (a * b) bytes) ≡ untied-sides (a, b)
 two-mode-cleared a b bytes = places.kept-cleared (two-mode-layout a b) bytes
 
-pub two-mode-none : (a b : ℕ) (bytes : List ℕ) (i j : ℕ) → across a b i j ≡ false → two-mode-of a b bytes .tie i j ≡ 0
-two-mode-none a b bytes i j off = places.kept-none (two-mode-layout a b) bytes i j off
-
 pub two-mode-outside : (a b : ℕ) (bytes : List ℕ) (i j : ℕ) → inside (a + b) i j ≡ false → two-mode-of a b bytes .tie i j ≡ 0
-two-mode-outside a b bytes i j out = two-mode-none a b bytes i j (grind (arith, tells))
+two-mode-outside a b bytes i j out = places.kept-none (two-mode-layout a b) bytes i j (grind (arith, tells))
 
 module _ (a b i j : ℕ) (h : across a b i j ≡ true) where
   pub place-below : (size : ℕ) → a * b ≤ size → i * b + (j - a) < size
