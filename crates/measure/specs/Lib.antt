@@ -1,3 +1,5 @@
 pub mod Measures
 pub mod Bits
 pub mod Kinds
+pub mod Bundles
+pub mod Tally

@@ -4,5 +4,9 @@
 pub mod interface;
 // The sets of kinds that go out and come in.
 pub mod kinds;
+// The combinations of kinds that there are with a single node.
+pub mod bundles;
+// The numbers of ties that go out and come in.
+pub mod tally;
 #[cfg(test)]
 mod tests;
