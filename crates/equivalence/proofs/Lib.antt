@@ -1,4 +1,9 @@
 pub mod Gathering
 pub mod Balance
-pub mod KindTotals
+pub mod Verdicts
+pub mod SetTotals
+pub mod Carrying
 pub mod RegularEquivalence
+pub mod MultiplexEquivalence
+pub mod CountTotals
+pub mod EquitablePartition

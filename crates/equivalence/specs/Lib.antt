@@ -3,3 +3,5 @@ pub mod Totals
 pub mod Regular
 pub mod Vetted
 pub mod Classical
+pub mod Multiplex
+pub mod Equitable

@@ -24,11 +24,10 @@ pub impl Measure for Bundles as BundlesMeasure {
     fn weigh(&self, out: u8, into: u8) -> BundleSet {
         let number = number(out, into);
         if number == 0 {
-            BundleSet { members: 0 }
-        } else {
-            BundleSet {
-                members: 1 << number,
-            }
+            return self.none();
+        }
+        BundleSet {
+            members: 1 << number,
         }
     }
 

@@ -1,13 +1,15 @@
+use Rattle.measure.specs.Kinds.{kinds}
 use Rattle.equivalence.specs.Vetted.{table-of}
+use Rattle.equivalence.proofs.Verdicts.{yes-in-words}
 use Rattle.equivalence.proofs.RegularEquivalence.{regular-under-kinds}
 use Rattle.equivalence.proofs.classical.vet_kinds.Needs as need
 
 pub returns : need.returns
 returns g c =
-    let vetted = c .vet .ensures in
-    let same = regular-under-kinds (g .N·Readable .meaning (c .args .network .now)) (table-of (c .args .table .now)) in
+    let m = g .N·Readable .meaning (c .args .network .now) in
+    let table = c .args .table .now in
     record {
-      vetted = vetted;
-      classical = (λ r. let h = vetted .yes-when .0 r in (h .0, same .0 (h .1)), λ h. vetted .yes-when .1 (h .0, same .1 (h .1)));
+      vetted = c .vet .ensures;
+      classical = yes-in-words kinds m table _ (c .vet .ensures) (regular-under-kinds m (table-of table));
       theorem = regular-under-kinds;
     }

@@ -1,0 +1,18 @@
+use Prim.Native.Nat.{_≤_}
+use borrow.Author.Needs.{needs}
+use Rattle.measure.specs.Tally.{tally}
+use Rattle.equivalence.specs.Vetted.{table-of}
+use Rattle.equivalence.proofs.Verdicts.{yes-in-words}
+use Rattle.equivalence.proofs.EquitablePartition.{regular-under-tally}
+use Rattle.equivalence.proofs.classical.vet_tally.Needs as need
+
+pub returns : need.returns
+returns g c =
+    let m = g .N·Readable .meaning (c .args .network .now) in
+    let table = c .args .table .now in
+    let few : m .nodes ≤ 128 = search needs in
+    record {
+      vetted = c .vet .ensures;
+      classical = yes-in-words tally m table _ (c .vet .ensures) (regular-under-tally m (table-of table) few);
+      theorem = regular-under-tally;
+    }
