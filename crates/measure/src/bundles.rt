@@ -2,6 +2,7 @@
 ghost use mathlib.Core.Path.{_≡_};
 ghost use Rattle.measure.specs.Bundles.{bundles, bundle};
 use super::interface::Measure;
+use super::members::has;
 
 // A value of bundles.
 pub mod set;
@@ -43,7 +44,7 @@ pub impl Measure for Bundles as BundlesMeasure {
 
     // Test t up to 63 asks for bundle t. No other holds.
     fn holds(&self, v: BundleSet, t: u8) -> bool {
-        t < 64 && (v.members >> t) & 1 == 1
+        t < 64 && has(v.members, t)
     }
 }
 

@@ -1,9 +1,7 @@
 // Kinds: which kinds of tie go out, and which come in.
-ghost use mathlib.Core.Path.{_≡_};
-ghost use Prim.Native.Nat.{_<_};
-ghost use Rattle.measure.specs.Bits.{bit};
 ghost use Rattle.measure.specs.Kinds.{kinds};
 use super::interface::Measure;
+use super::members::has;
 
 // A value of kinds.
 pub mod sets;
@@ -40,17 +38,9 @@ pub impl Measure for Kinds as KindsMeasure {
     // Tests 0 to 7 ask for a kind that goes out, 8 to 15 for one that comes in. No other holds.
     fn holds(&self, v: KindSets, t: u8) -> bool {
         match t {
-            0..=7 => has_kind(v.out, t),
-            8..=15 => has_kind(v.into, t - 8),
+            0..=7 => has(u64::from(v.out), t),
+            8..=15 => has(u64::from(v.into), t - 8),
             _ => false,
         }
     }
-}
-
-// Whether the set has kind k.
-fn has_kind(set: u8, k: u8) -> bool
-    requires { ⌜ k < 8 ⌝ }
-    ensures { λ r. ⌜ r ≡ bit set k ⌝ }
-{
-    (set >> k) & 1 == 1
 }

@@ -2,6 +2,8 @@
 
 // What a measure tells, and the laws it keeps.
 pub mod interface;
+// Membership in a set of numbers.
+mod members;
 // The sets of kinds that go out and come in.
 pub mod kinds;
 // The combinations of kinds that there are with a single node.

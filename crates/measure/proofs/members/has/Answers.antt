@@ -1,6 +1,6 @@
 use borrow.Author.Needs.{needs}
 use Rattle.measure.proofs.Bits.{bit-read}
-use Rattle.measure.proofs.kinds.has_kind.Needs as need
+use Rattle.measure.proofs.members.has.Needs as need
 
 pub returns : need.returns
 returns c = search (needs, bit-read)
