@@ -1,5 +1,7 @@
 // Small networks with known tables.
+use super::classical::vet_bundles;
 use super::classical::vet_kinds;
+use super::classical::vet_tally;
 use super::faults::Fault;
 use super::faults::FaultDebug;
 use super::faults::FaultPartialEq;
@@ -15,6 +17,13 @@ use network::interface::Editable;
 use network::matrix::Matrix;
 use network::matrix::MatrixEditable;
 use network::matrix::MatrixReadable;
+use network::no_loops::NoLoops;
+use network::no_loops::NoLoopsReadable;
+use network::turned::Turned;
+use network::turned::TurnedReadable;
+use network::two_mode::TwoMode;
+use network::two_mode::TwoModeEditable;
+use network::two_mode::TwoModeReadable;
 use std::alloc::Global;
 use std::test::*;
 
@@ -76,6 +85,59 @@ fn roles_need_not_have_equal_numbers_of_ties(rt: LibcRuntime) -> Result<(), Fail
 }
 
 #[test]
+fn tally_tells_numbers_of_ties_apart(rt: LibcRuntime) -> Result<(), Fail> {
+    let network = matrix(rt.alloc(), 5, &[(0, 1), (0, 2), (3, 4)])?;
+    check_eq(vet_bundles(&network, &[0, 1, 1, 0, 1]), Ok(None))?;
+    check_eq(vet_tally(&network, &[0, 1, 1, 0, 1]), Ok(Some((0, 3, 1))))?;
+    check_eq(vet_tally(&network, &[0, 1, 1, 3, 4]), Ok(None))
+}
+
+#[test]
+fn bundles_tell_a_mutual_tie_from_two_ties(rt: LibcRuntime) -> Result<(), Fail> {
+    let cycles = matrix(rt.alloc(), 5, &[(0, 1), (1, 2), (2, 0), (3, 4), (4, 3)])?;
+    check_eq(vet_tally(&cycles, &[6, 6, 6, 6, 6]), Ok(None))?;
+    check_eq(vet_bundles(&cycles, &[6, 6, 6, 6, 6]), Ok(Some((0, 3, 0))))?;
+    check_eq(vet_bundles(&cycles, &[6, 6, 6, 7, 7]), Ok(None))
+}
+
+#[test]
+fn bundles_look_at_three_kinds_and_tally_at_none(rt: LibcRuntime) -> Result<(), Fail> {
+    let mut network = matrix(rt.alloc(), 4, &[(0, 2), (1, 3)])?;
+    check(network.put(0, 2, 9).is_ok())?;
+    check_eq(vet_bundles(&network, &[0, 0, 1, 1]), Ok(None))?;
+    check(vet_kinds(&network, &[0, 0, 1, 1]) != Ok(None))?;
+    check(network.put(0, 2, 5).is_ok())?;
+    check(vet_bundles(&network, &[0, 0, 1, 1]) != Ok(None))?;
+    check_eq(vet_tally(&network, &[0, 0, 1, 1]), Ok(None))
+}
+
+// Students 0 to 2 and exams 3 and 4; students 0 and 1 sit exam 3.
+fn exams(heap: Global) -> Result<TwoMode, Fail> {
+    let mut network = TwoMode::new(3, 2, vec![in heap; 0; 6]?);
+    check(network.put(0, 3, 1).is_ok())?;
+    check(network.put(1, 3, 1).is_ok())?;
+    Ok(network)
+}
+
+#[test]
+fn two_modes_have_roles_across_both_sides(rt: LibcRuntime) -> Result<(), Fail> {
+    let network = exams(rt.alloc())?;
+    check_eq(vet_kinds(&network, &[0, 0, 2, 1, 2]), Ok(None))?;
+    check_eq(vet_bundles(&network, &[0, 0, 2, 1, 2]), Ok(None))?;
+    check_eq(vet_tally(&network, &[0, 0, 2, 1, 2]), Ok(None))?;
+    check_eq(vet_kinds(&network, &[0, 0, 0, 1, 1]), Ok(Some((3, 4, 0))))
+}
+
+#[test]
+fn a_layer_is_vetted_as_a_network(rt: LibcRuntime) -> Result<(), Fail> {
+    let network = NoLoops(Turned(exams(rt.alloc())?));
+    check_eq(vet_kinds(&network, &[0, 0, 2, 1, 2]), Ok(None))?;
+    check_eq(vet_kinds(&network, &[0, 0, 2, 1]), Err(Fault::Length))?;
+    let some = total_toward(&network, &Kinds, 3, &[0, 0, 2, 1, 2], 0);
+    check(Kinds.same(some, Kinds.weigh(1, 0)))
+}
+
+#[test]
 fn without_ties_every_table_is_regular(rt: LibcRuntime) -> Result<(), Fail> {
     let network = matrix(rt.alloc(), 4, &[])?;
     check_eq(vet(&network, &Kinds, &[0, 0, 0, 0]), Ok(None))?;
@@ -106,6 +168,8 @@ fn a_table_of_another_length_is_refused(rt: LibcRuntime) -> Result<(), Fail> {
     check_eq(vet(&network, &Kinds, &[0, 1]), Err(Fault::Length))?;
     check_eq(vet(&network, &Kinds, &[0, 1, 2, 3]), Err(Fault::Length))?;
     check_eq(vet_kinds(&network, &[]), Err(Fault::Length))?;
+    check_eq(vet_bundles(&network, &[0, 1]), Err(Fault::Length))?;
+    check_eq(vet_tally(&network, &[0, 1, 2, 3]), Err(Fault::Length))?;
     check_eq(Fault::Length.number(), 10)?;
     check_eq(Fault::Length.layer(), Layer::Vet)?;
     let memory = network.into_memory();
