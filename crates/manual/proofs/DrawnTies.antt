@@ -8,7 +8,6 @@ use lib.Dec.{eqb}
 use Rattle.std.specs.declared.result.Result.{Result}
 use Rattle.std.specs.declared.result.Result.the-variants.{Ok, Err}
 use Rattle.network.specs.Meaning.{Meaning}
-use Rattle.network.specs.Matrices.{matrix-check, untied}
 use Rattle.network.specs.Put.{put-answer, put-after}
 use Rattle.network.specs.declared.faults.Fault.{Fault}
 use Rattle.network.proofs.Puts.{put-accepted}
@@ -37,9 +36,6 @@ drawn-ties : (m end : Meaning) (ties : List (ℕ × ℕ)) (x y : ℕ) → drawn-
 drawn-ties m end [] x y d = ap (λ b. b .tie x y) (sym (within m end d))
 drawn-ties m end (t ∷ ts) x y d = step m end (t .0) (t .1) ts x y (put-answer m (t .0) (t .1) 1) refl d (λ b e. drawn-ties b end ts x y e)
 
-begun : (n : ℕ) (ties : List (ℕ × ℕ)) (m : Meaning) (x y : ℕ) (r : Result (Unit {0}) Fault) → elim r as (λ _. Result Meaning Fault) [ Ok _ ↦ drawn-from (untied n) ties | Err f ↦ Err f ] ≡ Ok m → m .tie x y ≡ cond (among ties x y) 1 0
-begun n ties m x y (Ok _) d = drawn-ties (untied n) m ties x y d
-begun n ties m x y (Err f) d = absurd (never f m d)
-
 pub drawn-law : Drawn
-drawn-law n size ties m d x y = begun n ties m x y (matrix-check n size) d
+drawn-law (Ok _) blank none ties m d x y = drawn-ties blank m ties x y d ∙ ap (λ v. cond (among ties x y) 1 v) (none x y)
+drawn-law (Err f) blank none ties m d x y = absurd (never f m d)

@@ -1,2 +1,3 @@
 pub mod Drawing
 pub mod Words
+pub mod Judging

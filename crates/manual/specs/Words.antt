@@ -1,10 +1,14 @@
--- What the page says of a table. Assumes nothing.
+-- What the page says of a table and of a put. Assumes nothing.
 use mathlib.Core.List.{List, _++_}
 use Prim.Native.Nat.{ℕ}
 use lib.Chars.{codes}
 use Rattle.std.specs.Written.{decimal}
 use Rattle.std.specs.declared.option.Option.{Option}
 use Rattle.std.specs.declared.option.Option.the-variants.{Some, None}
+use Rattle.std.specs.declared.result.Result.{Result}
+use Rattle.std.specs.declared.result.Result.the-variants.{Ok, Err}
+use Rattle.network.specs.Faults.{number}
+use Rattle.network.specs.declared.faults.Fault.{Fault}
 
 -- why a table is not regular: nodes x and y, and the role of node z
 abbrev pub reason-words : ℕ → ℕ → ℕ → List ℕ
@@ -15,3 +19,11 @@ reason-words x y z =
 abbrev pub verdict-words : Option (ℕ × ℕ × ℕ) → List ℕ
 verdict-words None = codes "are regular."
 verdict-words (Some w) = reason-words (w .0) (w .1) (w .2)
+
+abbrev pub refusal-words : ℕ → List ℕ
+refusal-words n = codes "refused with " ++ decimal n
+
+-- what comes of a put
+abbrev pub outcome-words : Result (Unit {0}) Fault → List ℕ
+outcome-words (Ok _) = codes "taken"
+outcome-words (Err f) = refusal-words (number f)

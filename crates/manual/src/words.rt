@@ -4,7 +4,8 @@ ghost use Rattle.std.specs.Of.String.{string-bytes};
 ghost use Rattle.std.specs.Vec.{made};
 ghost use Rattle.std.specs.Orderings.{Decides};
 ghost use Rattle.manual.specs.Drawing.{Isolated};
-ghost use Rattle.manual.specs.Words.{reason-words, verdict-words};
+ghost use Rattle.manual.specs.Words.{reason-words, verdict-words, refusal-words, outcome-words};
+use network::faults::Fault;
 use network::interface::Readable;
 use std::alloc::AllocError;
 use std::alloc::Global;
@@ -28,6 +29,22 @@ pub(crate) fn verdict(
     match answer {
         None => String::from_str(heap, "are regular."),
         Some((x, y, z)) => reason(heap, x, y, z),
+    }
+}
+
+fn refusal(heap: Global, number: u8) -> Result<String, AllocError>
+    ensures { λ r. ⌜ made r (λ s. string-bytes s ≡ refusal-words number) ⌝ }
+{
+    format!(heap, "refused with {number}")
+}
+
+// What a put's answer says.
+pub(crate) fn outcome(heap: Global, answer: Result<(), Fault>) -> Result<String, AllocError>
+    ensures { λ r. ⌜ made r (λ s. string-bytes s ≡ outcome-words answer) ⌝ }
+{
+    match answer {
+        Ok(()) => String::from_str(heap, "taken"),
+        Err(fault) => refusal(heap, fault.number()),
     }
 }
 
