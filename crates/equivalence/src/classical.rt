@@ -9,7 +9,7 @@ ghost use Rattle.measure.specs.Bundles.{bundles};
 ghost use Rattle.measure.specs.Tally.{tally};
 ghost use Rattle.equivalence.specs.Classical.{Regular-in-each, Regular-under-kinds};
 ghost use Rattle.equivalence.specs.Multiplex.{Multiplex-regular, Regular-under-bundles};
-ghost use Rattle.equivalence.specs.Equitable.{Equitable, Regular-under-tally};
+ghost use Rattle.equivalence.specs.Equitable.{Equitable, True-counts, Regular-under-tally};
 ghost use Rattle.equivalence.specs.Vetted.{Vetted, table-of};
 use super::faults::Fault;
 use super::vetting::vet;
@@ -56,6 +56,7 @@ pub fn vet_tally<N: Readable>(
     ensures classical { λ r. ⌜ (r ≡ Ok None) ↔ ((length (now (table .entry)) ≡ N·Readable .meaning (now (network .entry)) .nodes)
         × Equitable (N·Readable .meaning (now (network .entry))) (table-of (now (table .entry)))) ⌝ }
     ensures theorem { λ _. ⌜ Regular-under-tally ⌝ }
+    ensures counts { λ _. ⌜ True-counts ⌝ }
 {
     // Asked for its promise alone: at most 128 nodes, so that a count never meets its cap.
     let _few = network.nodes();

@@ -3,7 +3,7 @@ use borrow.Author.Needs.{needs}
 use Rattle.measure.specs.Tally.{tally}
 use Rattle.equivalence.specs.Vetted.{table-of}
 use Rattle.equivalence.proofs.Verdicts.{yes-in-words}
-use Rattle.equivalence.proofs.EquitablePartition.{regular-under-tally}
+use Rattle.equivalence.proofs.EquitablePartition.{regular-under-tally, true-counts}
 use Rattle.equivalence.proofs.classical.vet_tally.Needs as need
 
 pub returns : need.returns
@@ -15,4 +15,5 @@ returns g c =
       vetted = c .vet .ensures;
       classical = yes-in-words tally m table _ (c .vet .ensures) (regular-under-tally m (table-of table) few);
       theorem = regular-under-tally;
+      counts = true-counts;
     }
