@@ -1,20 +1,20 @@
 -- The totals of tally are true counts: with at most 128 nodes the cap never binds. Assumes nothing.
-use mathlib.Core.Path.{_≡_, refl, ap, _∙_, fun-ext}
+use mathlib.Core.Path.{_≡_, _∙_}
 use mathlib.Core.Bool.{Bool, true, false, cond, _&&_}
-use Prim.Native.Nat.{ℕ, zero, suc, _≤_, _<_}
+use Prim.Native.Nat.{ℕ, zero, suc, _≤_}
 use native.Mathlib.Omega.{arith}
 use lib.Dec.{ltb}
-use Rattle.network.specs.Meaning.{Meaning, sum-below, count-below}
+use Rattle.network.specs.Meaning.{Meaning, count-below}
 use Rattle.network.proofs.Counting.{count-below-le}
-use Rattle.measure.specs.Tally.{tally, present, sum}
+use Rattle.measure.specs.Tally.{tally, one-if-tied, capped-sum}
 use Rattle.measure.specs.declared.tally.counts.Counts.{Counts}
 use Rattle.equivalence.specs.Totals.{gather, share, total}
 
 -- one count of a value, of the ties that go out or of those that come in, and the byte that it counts
 pub record Count (count : Counts → ℕ) (pick : ℕ → ℕ → ℕ) : Type 0 where
   pub of-none : count (tally .none) ≡ 0
-  pub of-weigh : (o i : ℕ) → count (tally .weigh o i) ≡ present (pick o i)
-  pub of-join : (a b : Counts) → count (tally .join a b) ≡ sum (count a) (count b)
+  pub of-weigh : (o i : ℕ) → count (tally .weigh o i) ≡ one-if-tied (pick o i)
+  pub of-join : (a b : Counts) → count (tally .join a b) ≡ capped-sum (count a) (count b)
 
 module _ (count : Counts → ℕ) (pick : ℕ → ℕ → ℕ) (is : Count count pick) where
   -- values that count one or nothing add up to a true count

@@ -1,5 +1,5 @@
 -- A table is regular under tally where it is an equitable partition. Assumes nothing.
-use mathlib.Core.Path.{_≡_, refl, sym, ap, _∙_}
+use mathlib.Core.Path.{refl, sym, ap, _∙_}
 use Prim.Native.Nat.{ℕ, _≤_}
 use Rattle.network.specs.Meaning.{Meaning}
 use Rattle.measure.specs.Tally.{tally}

@@ -1,7 +1,7 @@
 -- Regular under bundles is multiplex regular equivalence, over kinds 0 to 2 and their inverses. Assumes nothing.
-use mathlib.Core.Path.{_≡_, refl, sym, ap, _∙_}
+use mathlib.Core.Path.{_≡_, refl, sym, _∙_}
 use mathlib.Core.Bool.{true, _&&_}
-use Prim.Native.Nat.{ℕ, _<_}
+use Prim.Native.Nat.{ℕ}
 use native.Mathlib.Omega.{arith}
 use lib.Dec.{ltb, eqb}
 use Rattle.std.proofs.shelf.Tests.{and-parts, and-from, lt-ltb, ltb-true, eq-eqb, eqb-true}
@@ -14,11 +14,11 @@ use Rattle.measure.proofs.BundleLaws.{members-same}
 use Rattle.equivalence.specs.Totals.{total}
 use Rattle.equivalence.specs.Regular.{Table, Regular, mates}
 use Rattle.equivalence.specs.Multiplex.{Same-bundle, Multiplex-regular, Regular-under-bundles}
-use Rattle.equivalence.proofs.SetTotals.{Side}
+use Rattle.equivalence.proofs.SetTotals.{Set-part}
 use Rattle.equivalence.proofs.Carrying.{Carried, carried-from-regular, same-member}
 
-member-side : (t : ℕ) → Side bundles (λ v. v .members) (λ o i. ltb 0 t && eqb (bundle o i) t) t
-member-side t = record { of-none = refl; of-weigh = λ o i. bit-singleton (bundle o i) t; of-join = λ a b. refl }
+member-set : (t : ℕ) → Set-part bundles (λ v. v .members) (λ o i. ltb 0 t && eqb (bundle o i) t) t
+member-set t = record { of-none = refl; of-weigh = λ o i. bit-singleton (bundle o i) t; of-join = λ a b. refl }
 
 module _ (m : Meaning) where
   -- the number of what x has with y
@@ -43,7 +43,7 @@ module _ (m : Meaning) where
     multiplex-from-regular regular a b c ha hb hc e (k, kind, some) =
         let t = with a c in
         let has = and-from (ltb 0 t) (eqb t t) (lt-ltb 0 t (bundle-pos (m .tie a c) (m .tie c a) k kind some)) (eq-eqb t t refl) in
-        let found = carried-from-regular bundles _ _ t (member-side t) m role regular a b c ha hb hc e has in
+        let found = carried-from-regular bundles _ _ t (member-set t) m role regular a b c ha hb hc e has in
         let d = found .0 in
         let number = eqb-true (with b d) t (and-parts (ltb 0 t) (eqb (with b d) t) (found .3) .1) in
         (d, found .1, found .2, same-from-number a c b d (sym number))
@@ -61,7 +61,7 @@ module _ (m : Meaning) where
     regular-from-multiplex multiplex z hz x y hx hy e =
         let a = total bundles m x (mates role z) in
         let b = total bundles m y (mates role z) in
-        members-same a b (same-bits 64 (a .members) (b .members) (a .wide) (b .wide) (λ t _. same-member bundles _ _ t (member-side t) m role (carried-from-multiplex multiplex t) x y z hx hy e))
+        members-same a b (same-bits 64 (a .members) (b .members) (a .wide) (b .wide) (λ t _. same-member bundles _ _ t (member-set t) m role (carried-from-multiplex multiplex t) x y z hx hy e))
 
 pub regular-under-bundles : Regular-under-bundles
 regular-under-bundles m role = (multiplex-from-regular m role, regular-from-multiplex m role)

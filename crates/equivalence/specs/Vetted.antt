@@ -1,7 +1,8 @@
 -- What the vet answers. Assumes nothing.
 --
---   table-of    the table that a list of bytes is: equal bytes are one role
---   Vetted      r is an answer of the vet
+--   table-of       the table that a list of bytes is: equal bytes are one role
+--   Yes-exactly    r says yes exactly when the table has one byte for each node, and is as P says
+--   Vetted         r is an answer of the vet
 use mathlib.Core.Path.{_≡_}
 use mathlib.Core.Logic.{_↔_}
 use mathlib.Core.List.{List}
@@ -19,10 +20,13 @@ use Rattle.equivalence.specs.declared.faults.Fault.{Fault}
 abbrev pub table-of : List ℕ → Table
 table-of table x = getD table x 0
 
+abbrev pub Yes-exactly : Meaning → List ℕ → Result (Option (ℕ × ℕ × ℕ)) Fault → (Table → Type 0) → Type 0
+Yes-exactly m table r P = (r ≡ Ok None) ↔ ((length table ≡ m .nodes) × P (table-of table))
+
 pub record Vetted {V : Type 0} (o : Operations V) (m : Meaning) (table : List ℕ) (r : Result (Option (ℕ × ℕ × ℕ)) Fault) : Type 0 where
   -- 10 exactly when the table has not one byte for each node
   pub refused : (r ≡ Err Fault.Length) ↔ (length table ≡ m .nodes → ⊥)
   -- yes exactly when it has, and is regular
-  pub yes-when : (r ≡ Ok None) ↔ ((length table ≡ m .nodes) × Regular o m (table-of table))
+  pub yes-when : Yes-exactly m table r (Regular o m)
   -- otherwise three nodes that show why not
   pub no-shows : (x y z : ℕ) → r ≡ Ok (Some (x, y, z)) → Unequal o m (table-of table) x y z

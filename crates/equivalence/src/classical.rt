@@ -1,16 +1,11 @@
 // What regular means under a measure, in the classical notion of its field.
-ghost use mathlib.Core.Path.{_≡_};
-ghost use mathlib.Core.Logic.{_↔_};
-ghost use lib.ListN.{length};
-ghost use Rattle.std.specs.declared.option.Option.the-variants.{None};
-ghost use Rattle.std.specs.declared.result.Result.the-variants.{Ok};
 ghost use Rattle.measure.specs.Kinds.{kinds};
 ghost use Rattle.measure.specs.Bundles.{bundles};
 ghost use Rattle.measure.specs.Tally.{tally};
 ghost use Rattle.equivalence.specs.Classical.{Regular-in-each, Regular-under-kinds};
 ghost use Rattle.equivalence.specs.Multiplex.{Multiplex-regular, Regular-under-bundles};
 ghost use Rattle.equivalence.specs.Equitable.{Equitable, True-counts, Regular-under-tally};
-ghost use Rattle.equivalence.specs.Vetted.{Vetted, table-of};
+ghost use Rattle.equivalence.specs.Vetted.{Vetted, Yes-exactly};
 use super::faults::Fault;
 use super::vetting::vet;
 use measure::bundles::Bundles;
@@ -27,8 +22,7 @@ pub fn vet_kinds<N: Readable>(
     table: &[u8],
 ) -> Result<Option<(usize, usize, usize)>, Fault>
     ensures vetted { λ r. ⌜ Vetted kinds (N·Readable .meaning (now (network .entry))) (now (table .entry)) r ⌝ }
-    ensures classical { λ r. ⌜ (r ≡ Ok None) ↔ ((length (now (table .entry)) ≡ N·Readable .meaning (now (network .entry)) .nodes)
-        × Regular-in-each (N·Readable .meaning (now (network .entry))) (table-of (now (table .entry)))) ⌝ }
+    ensures classical { λ r. ⌜ Yes-exactly (N·Readable .meaning (now (network .entry))) (now (table .entry)) r (Regular-in-each (N·Readable .meaning (now (network .entry)))) ⌝ }
     ensures theorem { λ _. ⌜ Regular-under-kinds ⌝ }
 {
     vet(network, &Kinds, table)
@@ -40,8 +34,7 @@ pub fn vet_bundles<N: Readable>(
     table: &[u8],
 ) -> Result<Option<(usize, usize, usize)>, Fault>
     ensures vetted { λ r. ⌜ Vetted bundles (N·Readable .meaning (now (network .entry))) (now (table .entry)) r ⌝ }
-    ensures classical { λ r. ⌜ (r ≡ Ok None) ↔ ((length (now (table .entry)) ≡ N·Readable .meaning (now (network .entry)) .nodes)
-        × Multiplex-regular (N·Readable .meaning (now (network .entry))) (table-of (now (table .entry)))) ⌝ }
+    ensures classical { λ r. ⌜ Yes-exactly (N·Readable .meaning (now (network .entry))) (now (table .entry)) r (Multiplex-regular (N·Readable .meaning (now (network .entry)))) ⌝ }
     ensures theorem { λ _. ⌜ Regular-under-bundles ⌝ }
 {
     vet(network, &Bundles, table)
@@ -53,8 +46,7 @@ pub fn vet_tally<N: Readable>(
     table: &[u8],
 ) -> Result<Option<(usize, usize, usize)>, Fault>
     ensures vetted { λ r. ⌜ Vetted tally (N·Readable .meaning (now (network .entry))) (now (table .entry)) r ⌝ }
-    ensures classical { λ r. ⌜ (r ≡ Ok None) ↔ ((length (now (table .entry)) ≡ N·Readable .meaning (now (network .entry)) .nodes)
-        × Equitable (N·Readable .meaning (now (network .entry))) (table-of (now (table .entry)))) ⌝ }
+    ensures classical { λ r. ⌜ Yes-exactly (N·Readable .meaning (now (network .entry))) (now (table .entry)) r (Equitable (N·Readable .meaning (now (network .entry)))) ⌝ }
     ensures theorem { λ _. ⌜ Regular-under-tally ⌝ }
     ensures counts { λ _. ⌜ True-counts ⌝ }
 {

@@ -1,6 +1,6 @@
 -- Numbers by their bits. Assumes nothing.
 use mathlib.Core.Path.{_≡_, refl, sym, ap, _∙_}
-use mathlib.Core.Bool.{Bool, true, false, _||_}
+use mathlib.Core.Bool.{true, false, _||_, or-assoc}
 use mathlib.Core.Logic.{inl, inr}
 use Prim.Native.Nat.{ℕ, zero, suc, max, _+_, _-_, _/_, _%_, _^_, _<_}
 use native.Mathlib.Nat.{pow-suc, zero-div}
@@ -41,17 +41,13 @@ same-bits (suc w) a b ha hb e =
     let halves = same-bits w (a / 2) (b / 2) (omega (arith, pow-suc 2 w)) (omega (arith, pow-suc 2 w)) (λ k h. bit-half a k ∙ e (suc k) (omega arith) ∙ sym (bit-half b k)) in
     omega (arith, same-digit a b (e 0 (omega arith)))
 
-either-assoc : (x y z : Bool) → ((x || y) || z) ≡ (x || (y || z))
-either-assoc true y z = refl
-either-assoc false y z = refl
-
 pub or-assoc-below : (w a b c : ℕ) → a < 2 ^ w → b < 2 ^ w → c < 2 ^ w → bitOr (bitOr a b) c ≡ bitOr a (bitOr b c)
 or-assoc-below w a b c ha hb hc =
     same-bits w (bitOr (bitOr a b) c) (bitOr a (bitOr b c)) (or-lt w _ c (or-lt w a b ha hb) hc) (or-lt w a _ ha (or-lt w b c hb hc))
     (λ k _.
     bit-or (bitOr a b) c k
     ∙ ap (λ x. x || bit c k) (bit-or a b k)
-    ∙ either-assoc (bit a k) (bit b k) (bit c k)
+    ∙ or-assoc (bit a k) (bit b k) (bit c k)
     ∙ sym (bit-or a (bitOr b c) k ∙ ap (λ x. bit a k || x) (bit-or b c k)))
 
 -- a number above 0 has a bit that is set

@@ -1,7 +1,8 @@
 -- The measure bundles: which combinations of kinds 0 to 2, out and in together, there are with a single node. Assumes nothing.
 --
---   bundle     the number of the combination, 0 where there is none of these kinds
---   bundles    sets of such numbers
+--   bundle       the number of the combination, 0 where there is none of these kinds
+--   singleton    the set of one such number, or the empty set for 0
+--   bundles      sets of such numbers
 use mathlib.Core.Bool.{cond, _&&_}
 use Prim.Native.Nat.{ℕ, _+_, _*_, _%_, _^_, _<_}
 use lib.Bits.{bitOr, or-lt}
@@ -17,15 +18,15 @@ use Rattle.measure.specs.declared.bundles.set.BundleSet.{BundleSet}
 abbrev pub bundle : ℕ → ℕ → ℕ
 bundle o i = o % 8 + 8 * (i % 8)
 
--- the set of one number, or the empty set for 0
 abbrev pub singleton : ℕ → ℕ
 singleton n = cond (eqb n 0) 0 (2 ^ n)
 
-pub singleton-lt : (n : ℕ) → n < 64 → singleton n < 2 ^ 64
-singleton-lt n h = cond-both (eqb n 0) 0 (2 ^ n) (λ s. s < 2 ^ 64) (λ _. lit< tt) (λ _. pow-lt h)
-
 abbrev pub bundles-weigh : ℕ → ℕ → BundleSet
-bundles-weigh o i = record { members = singleton (bundle o i); wide = singleton-lt (bundle o i) (omega arith) }
+bundles-weigh o i =
+    record {
+      members = singleton (bundle o i);
+      wide = cond-both (eqb (bundle o i) 0) 0 (2 ^ bundle o i) (λ s. s < 2 ^ 64) (λ _. lit< tt) (λ _. pow-lt {j = 64} (omega arith));
+    }
 
 abbrev pub bundles-join : BundleSet → BundleSet → BundleSet
 bundles-join a b = record { members = bitOr (a .members) (b .members); wide = or-lt 64 (a .members) (b .members) (a .wide) (b .wide) }

@@ -23,12 +23,11 @@ pub impl Measure for Bundles as BundlesMeasure {
 
     // The set of the pair's own bundle, empty where no kind goes out or comes in.
     fn weigh(&self, out: u8, into: u8) -> BundleSet {
-        let number = number(out, into);
-        if number == 0 {
-            return self.none();
-        }
-        BundleSet {
-            members: 1 << number,
+        match bundle(out, into) {
+            0 => self.none(),
+            number => BundleSet {
+                members: 1 << number,
+            },
         }
     }
 
@@ -49,7 +48,7 @@ pub impl Measure for Bundles as BundlesMeasure {
 }
 
 // The number of a bundle: the kinds that go out are its bits 0 to 2, those that come in its bits 3 to 5.
-fn number(out: u8, into: u8) -> u8
+fn bundle(out: u8, into: u8) -> u8
     ensures { λ r. ⌜ r ≡ bundle out into ⌝ }
 {
     out % 8 + 8 * (into % 8)

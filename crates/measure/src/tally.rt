@@ -1,7 +1,6 @@
 // Tally: how many ties go out, and how many come in, whatever their kinds.
 ghost use mathlib.Core.Path.{_≡_};
-ghost use Prim.Native.Nat.{_≤_};
-ghost use Rattle.measure.specs.Tally.{tally, present, sum};
+ghost use Rattle.measure.specs.Tally.{tally, one-if-tied, capped-sum};
 use super::interface::Measure;
 
 // A value of tally.
@@ -47,14 +46,14 @@ pub impl Measure for Tally as TallyMeasure {
 }
 
 fn one_if_tied(byte: u8) -> u8
-    ensures { λ r. ⌜ r ≡ present byte ⌝ }
+    ensures { λ r. ⌜ r ≡ one-if-tied byte ⌝ }
 {
     byte.min(1)
 }
 
 // A network has at most 128 nodes, so a count of them stops at 128.
 fn capped_sum(a: u8, b: u8) -> u8
-    ensures { λ r. ⌜ r ≡ sum a b ⌝ }
+    ensures { λ r. ⌜ r ≡ capped-sum a b ⌝ }
 {
     a.saturating_add(b).min(128)
 }

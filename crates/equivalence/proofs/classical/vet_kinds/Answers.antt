@@ -1,4 +1,6 @@
 use Rattle.measure.specs.Kinds.{kinds}
+use Rattle.equivalence.specs.Regular.{Regular}
+use Rattle.equivalence.specs.Classical.{Regular-in-each}
 use Rattle.equivalence.specs.Vetted.{table-of}
 use Rattle.equivalence.proofs.Verdicts.{yes-in-words}
 use Rattle.equivalence.proofs.RegularEquivalence.{regular-under-kinds}
@@ -10,6 +12,6 @@ returns g c =
     let table = c .args .table .now in
     record {
       vetted = c .vet .ensures;
-      classical = yes-in-words kinds m table _ (c .vet .ensures) (regular-under-kinds m (table-of table));
+      classical = yes-in-words m table _ (Regular kinds m) (Regular-in-each m) (regular-under-kinds m (table-of table)) (c .vet .ensures .yes-when);
       theorem = regular-under-kinds;
     }

@@ -4,6 +4,3 @@ use Rattle.measure.proofs.bundles.BundlesMeasure.weigh.Needs as need
 
 pub returns : need.returns
 returns c = search (needs, members-same)
-
-pub returns-then-number-eq0 : need.returns-then-number-eq0
-returns-then-number-eq0 c = search (needs, members-same)
