@@ -37,5 +37,4 @@ drawn-ties m end [] x y d = ap (λ b. b .tie x y) (sym (within m end d))
 drawn-ties m end (t ∷ ts) x y d = step m end (t .0) (t .1) ts x y (put-answer m (t .0) (t .1) 1) refl d (λ b e. drawn-ties b end ts x y e)
 
 pub drawn-law : Drawn
-drawn-law (Ok _) blank none ties m d x y = drawn-ties blank m ties x y d ∙ ap (λ v. cond (among ties x y) 1 v) (none x y)
-drawn-law (Err f) blank none ties m d x y = absurd (never f m d)
+drawn-law blank none ties m d x y = drawn-ties blank m ties x y d ∙ ap (λ v. cond (among ties x y) 1 v) (none x y)

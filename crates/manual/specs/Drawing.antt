@@ -38,7 +38,7 @@ among [] x y = false
 among (t ∷ ts) x y = among ts x y || (eqb x (t .0) && eqb y (t .1))
 
 abbrev pub Drawn : Type 0
-Drawn = (check : Result (Unit {0}) Fault) (blank : Meaning) → ((x y : ℕ) → blank .tie x y ≡ 0) → (ties : List (ℕ × ℕ)) (m : Meaning) → drawn-on check blank ties ≡ Ok m → (x y : ℕ) → m .tie x y ≡ cond (among ties x y) 1 0
+Drawn = (blank : Meaning) → ((x y : ℕ) → blank .tie x y ≡ 0) → (ties : List (ℕ × ℕ)) (m : Meaning) → drawn-from blank ties ≡ Ok m → (x y : ℕ) → m .tie x y ≡ cond (among ties x y) 1 0
 
 abbrev pub Isolated : Meaning → ℕ → Type 0
 Isolated m x = (y : ℕ) → y < m .nodes → (m .tie x y ≡ 0) × (m .tie y x ≡ 0)

@@ -40,7 +40,7 @@ fn show<N: Readable>(rt: &LibcRuntime, name: &str, network: &N) -> Result<(), Tr
     Ok(())
 }
 
-// Vets a table, and prints what comes of it.
+// Vets a table under a measure, and prints what comes of it.
 fn judge<N: Readable>(
     rt: &LibcRuntime,
     network: &N,
@@ -50,21 +50,17 @@ fn judge<N: Readable>(
 ) -> Result<(), Trouble> {
     let roles = words::listed(rt.alloc(), table)?;
     let verdict = words::verdict(rt.alloc(), vetted(network, measure, table)?)?;
-    println!(rt, "  {name} roles {roles} {verdict}")?;
+    let under = measure.text();
+    println!(rt, "  Under {under}, {name} roles {roles} {verdict}")?;
     Ok(())
 }
 
 // One table under each measure.
 fn compare<N: Readable>(rt: &LibcRuntime, network: &N, table: &[u8]) -> Result<(), Trouble> {
-    judge(rt, network, "Under kinds, the", MeasureName::Kinds, table)?;
-    judge(
-        rt,
-        network,
-        "Under bundles, the",
-        MeasureName::Bundles,
-        table,
-    )?;
-    judge(rt, network, "Under tally, the", MeasureName::Tally, table)
+    for measure in [MeasureName::Kinds, MeasureName::Bundles, MeasureName::Tally] {
+        judge(rt, network, "the", measure, table)?;
+    }
+    Ok(())
 }
 
 // Puts a tie, and prints what comes of it.
@@ -80,16 +76,16 @@ fn attempt<N: Editable>(
 }
 
 // The tables of the page, under kinds.
-fn settle(rt: &LibcRuntime) -> Result<(), Trouble> {
+fn tables(rt: &LibcRuntime) -> Result<(), Trouble> {
     let heap = rt.alloc();
     let first = drawn(3, vec![in heap; 0; 9]?, &[(0, 1), (1, 2)])?;
     show(rt, "first", &first)?;
-    judge(rt, &first, "The draft's", MeasureName::Kinds, &[0, 1, 2])?;
+    judge(rt, &first, "the draft's", MeasureName::Kinds, &[0, 1, 2])?;
 
     let second = drawn(3, vec![in heap; 0; 9]?, &[(0, 1)])?;
     show(rt, "second", &second)?;
-    judge(rt, &second, "The draft's", MeasureName::Kinds, &[0, 1, 1])?;
-    judge(rt, &second, "The corrected", MeasureName::Kinds, &[0, 1, 2])
+    judge(rt, &second, "the draft's", MeasureName::Kinds, &[0, 1, 1])?;
+    judge(rt, &second, "the corrected", MeasureName::Kinds, &[0, 1, 2])
 }
 
 // Where the measures differ.
@@ -109,21 +105,22 @@ fn contrast(rt: &LibcRuntime) -> Result<(), Trouble> {
 fn layers(rt: &LibcRuntime) -> Result<(), Trouble> {
     let heap = rt.alloc();
     let exams = drawn_sides(3, 2, vec![in heap; 0; 6]?, &[(0, 3), (1, 3)])?;
-    show(rt, "exams", &exams)?;
-    judge(rt, &exams, "The", MeasureName::Kinds, &[0, 0, 2, 1, 2])?;
+    show(rt, "students and exams", &exams)?;
+    judge(rt, &exams, "the", MeasureName::Kinds, &[0, 0, 2, 1, 2])?;
 
     let turned = Turned(exams);
     show(rt, "turned", &turned)?;
-    judge(rt, &turned, "The", MeasureName::Kinds, &[0, 0, 2, 1, 2])?;
+    judge(rt, &turned, "the", MeasureName::Kinds, &[0, 0, 2, 1, 2])?;
 
     let mut bare = NoLoops(drawn(2, vec![in heap; 0; 4]?, &[(0, 1), (1, 1)])?);
     show(rt, "no-loops", &bare)?;
     attempt(rt, &mut bare, 0, 0)?;
-    attempt(rt, &mut bare, 1, 0)
+    attempt(rt, &mut bare, 1, 0)?;
+    show(rt, "no-loops", &bare)
 }
 
 fn page(rt: &LibcRuntime) -> Result<(), Trouble> {
-    settle(rt)?;
+    tables(rt)?;
     contrast(rt)?;
     layers(rt)
 }
