@@ -14,7 +14,7 @@ use Rattle.network.proofs.Counting.{sum-below-swap}
 pub inside-swap : (n i j : ℕ) → inside n i j ≡ inside n j i
 inside-swap n i j = and-comm (ltb i n) (ltb j n)
 
-pub tied-pairs-turn : (m : Meaning) → tied-pairs (turn m) ≡ tied-pairs m
+tied-pairs-turn : (m : Meaning) → tied-pairs (turn m) ≡ tied-pairs m
 tied-pairs-turn m = sum-below-swap (λ i j. cond (tied m j i) 1 0) (m .nodes) (m .nodes)
 
 pub put-answer-turn : (m : Meaning) (i j b : ℕ) → put-answer (turn m) i j b ≡ put-answer m j i b

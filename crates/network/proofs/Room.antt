@@ -29,7 +29,7 @@ module _
   row-count-none i past = sum-below-none (λ j. cond (tied m i j) 1 0) (m .nodes) (λ j _. grind (arith, tells, within i j))
 
   -- an untied pair among them is missing from the count
-  pub tied-pairs-lt : (i j : ℕ) → i < rows → lo ≤ j → j < lo + width → tied m i j ≡ false → tied-pairs m < rows * width
+  tied-pairs-lt : (i j : ℕ) → i < rows → lo ≤ j → j < lo + width → tied m i j ≡ false → tied-pairs m < rows * width
   tied-pairs-lt i j hi from to free =
       let row : ℕ → ℕ = λ k. count-below (tied m k) (m .nodes) in
       let column : lo + (j - lo) ≡ j = omega arith in

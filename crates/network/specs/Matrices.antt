@@ -1,9 +1,11 @@
 -- A network kept as n rows of n bytes. Assumes nothing.
 --
+--   every-pair      n nodes with given ties
 --   matrix-of       the network of the first n * n bytes
 --   written         the bytes after a put
 --   matrix-check    whether n nodes fit into so many bytes
 --   granted         how many nodes a making gives
+--   untied          n nodes without a tie
 use mathlib.Core.Bool.{true, cond, _&&_}
 use mathlib.Core.List.{List}
 use Prim.Native.Nat.{ℕ, _+_, _*_}
@@ -35,6 +37,5 @@ matrix-check n bytes = cond (ltb 0 n && leb n 128) (cond (leb (n * n) bytes) (Ok
 abbrev pub granted : ℕ → ℕ → ℕ
 granted n bytes = elim (matrix-check n bytes) [ Ok _ ↦ n | Err _ ↦ 0 ]
 
--- n nodes without a tie
 abbrev pub untied : ℕ → Meaning
 untied n = every-pair n (λ _ _. 0)

@@ -1,6 +1,7 @@
 -- A network of two sides, with ties from side A to side B only. Assumes nothing.
 --
 --   across             the first node is on side A, and the second on side B
+--   from-a-to-b        two sides with given ties
 --   two-mode-of        the network of the first a * b bytes
 --   two-mode-written   the bytes after a put
 --   two-mode-check     whether two sides fit into so many bytes
@@ -30,6 +31,7 @@ from-a-to-b a b tie = record { nodes = a + b; tie = tie; allowed = across a b; c
 abbrev pub two-mode-of : ℕ → ℕ → List ℕ → Meaning
 two-mode-of a b bytes = from-a-to-b a b (λ i j. cond (across a b i j) (getD bytes (i * b + (j - a)) 0) 0)
 
+-- one byte differs where the put is accepted, none where it is refused
 abbrev pub two-mode-written : ℕ → ℕ → List ℕ → ℕ → ℕ → ℕ → List ℕ
 two-mode-written a b bytes i j byte = written-at (i * b + (j - a)) (two-mode-of a b bytes) bytes i j byte
 

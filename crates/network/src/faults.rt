@@ -12,7 +12,7 @@ pub enum Layer {
 // Why a network refuses.
 #[derive(Clone, Copy, PartialEq, Eq, Debug)]
 pub enum Fault {
-    // There are not 1 to 128 nodes.
+    // There are not 1 to 128 nodes, or a side has none.
     Size,
     // The memory handed to the making is too short.
     Memory,

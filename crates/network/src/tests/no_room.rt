@@ -4,9 +4,9 @@ use super::super::faults::Fault;
 use super::super::interface::Editable;
 use super::super::interface::Readable;
 
-// Three nodes, every pair allowed, and memory that is never written.
+// Three nodes, every pair allowed, no tie.
 #[derive(Drop)]
-pub struct NoRoom(pub Vec<u8>);
+pub struct NoRoom;
 
 pub impl Readable for NoRoom as NoRoomReadable {
     ghost meaning = { λ _. record { nodes = 3; tie = λ _ _. 0; allowed = λ _ _. true; capacity = 0 } };
