@@ -1,5 +1,7 @@
 // Regular equivalence: totals toward a set of nodes, and the vet of a table.
 
+#![tactic(auto)]
+
 // The refusals of the vet.
 pub mod faults;
 // What a node has with a set of nodes.

@@ -31,8 +31,8 @@ pub(crate) fn vetted<N: Readable>(
     measure: MeasureName,
     table: &[u8],
 ) -> Result<Option<(usize, usize, usize)>, Fault>
-    ensures vetted { VettedUnder measure (meaning network.now) table.now result }
-    ensures classical { YesExactly (meaning network.now) table.now result (InWords measure (meaning network.now)) }
+    ensures vetted { VettedUnder measure (N.meaning network.now) table.now result }
+    ensures classical { YesExactly (N.meaning network.now) table.now result (InWords measure (N.meaning network.now)) }
 {
     match measure {
         MeasureName::Kinds => vet_kinds(network, table),

@@ -1,5 +1,7 @@
 // Settles a dispute over a manual page: which of the role tables that the page prints are regular, and under which measure.
 
+#![tactic(auto)]
+
 // A network as a page draws it.
 mod drawing;
 // Whether a table is regular under a measure.

@@ -63,7 +63,7 @@ pub(crate) fn listed(heap: Global, table: &[u8]) -> Result<String, AllocError> {
 
 // Whether x has no tie, out or in.
 fn isolated<N: Readable>(network: &N, x: usize) -> bool
-    ensures { Decides result (Isolated (meaning network.now) x) }
+    ensures { Decides result (Isolated (N.meaning network.now) x) }
 {
     for y in 0..network.nodes() {
         if network.tie(x, y) > 0 || network.tie(y, x) > 0 {

@@ -1,5 +1,7 @@
 // Measures: how ties are weighed.
 
+#![tactic(auto)]
+
 // What a measure tells, and the laws it keeps.
 pub mod interface;
 // Membership in a set of numbers.

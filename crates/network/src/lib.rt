@@ -1,5 +1,7 @@
 // Networks: where ties live, and when a put is refused.
 
+#![tactic(auto)]
+
 // The refusals of a network, with their numbers.
 pub mod faults;
 // What a network tells and takes.

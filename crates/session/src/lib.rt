@@ -1,5 +1,7 @@
 // Sessions: from the starting classes to the coarsest regular table.
 
+#![tactic(auto)]
+
 // One role: its lowest node and its size.
 pub mod role;
 // The table of roles.

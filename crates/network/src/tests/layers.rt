@@ -21,7 +21,7 @@ fn turned_over_no_loops_over_two_sides(rt: HostRuntime) -> Result<(), Fail> {
     assert_eq!(rt; network.put(3, 0, 1), Err(Fault::Node));
     assert_eq!(rt; network.put(3, 3, 1), Err(Fault::Node));
     let Turned(NoLoops(below)) = network;
-    assert!(rt; below.into_memory().as_slice() == &[0, 5, 9]);
+    assert!(rt; below.into_memory().as_slice() == [0, 5, 9].as_slice());
     Ok(())
 }
 
@@ -37,7 +37,7 @@ fn no_loops_over_turned_over_two_sides(rt: HostRuntime) -> Result<(), Fail> {
     assert_eq!(rt; network.put(0, 3, 1), Err(Fault::Node));
     assert_eq!(rt; network.put(3, 3, 1), Err(Fault::Node));
     let NoLoops(Turned(below)) = network;
-    assert!(rt; below.into_memory().as_slice() == &[4, 0, 9]);
+    assert!(rt; below.into_memory().as_slice() == [4, 0, 9].as_slice());
     Ok(())
 }
 
@@ -51,7 +51,7 @@ fn loops_that_are_there_are_still_read(rt: HostRuntime) -> Result<(), Fail> {
     assert_eq!(rt; network.put(0, 1, 3), Ok(()));
     assert_eq!(rt; network.tie(1, 1), 8);
     let NoLoops(below) = network;
-    assert!(rt; below.into_memory().as_slice() == &[0, 3, 0, 8]);
+    assert!(rt; below.into_memory().as_slice() == [0, 3, 0, 8].as_slice());
     Ok(())
 }
 

@@ -12,7 +12,7 @@ fn a_matrix_clears_its_own_bytes_alone(rt: HostRuntime) -> Result<(), Fail> {
     assert_eq!(rt; network.nodes(), 3);
     assert_eq!(rt; network.tie(2, 2), 0);
     let memory = network.into_memory();
-    assert!(rt; memory.as_slice() == &[0, 0, 0, 0, 0, 0, 0, 0, 0, 7, 7, 7]);
+    assert!(rt; memory.as_slice() == [0, 0, 0, 0, 0, 0, 0, 0, 0, 7, 7, 7].as_slice());
     Ok(())
 }
 
@@ -26,7 +26,7 @@ fn no_nodes_and_too_many_are_refused(rt: HostRuntime) -> Result<(), Fail> {
     assert_eq!(rt; none.nodes(), 0);
     let many = Matrix::new(129, none.into_memory());
     assert_eq!(rt; many.nodes(), 0);
-    assert!(rt; many.into_memory().as_slice() == &[7, 7]);
+    assert!(rt; many.into_memory().as_slice() == [7, 7].as_slice());
     Ok(())
 }
 
@@ -37,7 +37,7 @@ fn short_memory_is_refused(rt: HostRuntime) -> Result<(), Fail> {
     let mut network = Matrix::new(3, memory);
     assert_eq!(rt; network.nodes(), 0);
     assert_eq!(rt; network.put(0, 0, 1), Err(Fault::Node));
-    assert!(rt; network.into_memory().as_slice() == &[7, 7, 7, 7, 7, 7, 7, 7]);
+    assert!(rt; network.into_memory().as_slice() == [7, 7, 7, 7, 7, 7, 7, 7].as_slice());
     Ok(())
 }
 
@@ -49,7 +49,7 @@ fn a_put_alters_one_byte(rt: HostRuntime) -> Result<(), Fail> {
     assert_eq!(rt; network.put(1, 1, 0), Ok(()));
     assert_eq!(rt; network.tie(0, 1), 255);
     assert_eq!(rt; network.tie(1, 0), 0);
-    assert!(rt; network.into_memory().as_slice() == &[0, 255, 0, 0, 9]);
+    assert!(rt; network.into_memory().as_slice() == [0, 255, 0, 0, 9].as_slice());
     Ok(())
 }
 
@@ -62,6 +62,6 @@ fn a_node_that_is_not_there_is_refused_and_reads_0(rt: HostRuntime) -> Result<()
     assert_eq!(rt; network.put(0, usize::MAX, 0), Err(Fault::Node));
     assert_eq!(rt; network.tie(0, 2), 0);
     assert_eq!(rt; network.tie(2, 0), 0);
-    assert!(rt; network.into_memory().as_slice() == &[0, 1, 0, 0, 9]);
+    assert!(rt; network.into_memory().as_slice() == [0, 1, 0, 0, 9].as_slice());
     Ok(())
 }

@@ -11,7 +11,7 @@ fn two_sides_clear_their_own_bytes_alone(rt: HostRuntime) -> Result<(), Fail> {
     let network = TwoMode::new(2, 3, memory);
     assert_eq!(rt; network.nodes(), 5);
     assert_eq!(rt; network.tie(1, 4), 0);
-    assert!(rt; network.into_memory().as_slice() == &[0, 0, 0, 0, 0, 0, 7, 7]);
+    assert!(rt; network.into_memory().as_slice() == [0, 0, 0, 0, 0, 0, 7, 7].as_slice());
     Ok(())
 }
 
@@ -39,7 +39,7 @@ fn an_empty_side_and_too_many_nodes_are_refused(rt: HostRuntime) -> Result<(), F
     assert_eq!(rt; empty.nodes(), 0);
     let many = TwoMode::new(128, 1, empty.into_memory());
     assert_eq!(rt; many.nodes(), 0);
-    assert!(rt; many.into_memory().as_slice() == &[7, 7]);
+    assert!(rt; many.into_memory().as_slice() == [7, 7].as_slice());
     Ok(())
 }
 
@@ -50,7 +50,7 @@ fn two_sides_refuse_short_memory(rt: HostRuntime) -> Result<(), Fail> {
     let mut network = TwoMode::new(2, 3, memory);
     assert_eq!(rt; network.nodes(), 0);
     assert_eq!(rt; network.put(0, 2, 1), Err(Fault::Node));
-    assert!(rt; network.into_memory().as_slice() == &[7, 7, 7, 7, 7]);
+    assert!(rt; network.into_memory().as_slice() == [7, 7, 7, 7, 7].as_slice());
     Ok(())
 }
 
@@ -69,6 +69,6 @@ fn ties_go_from_side_a_to_side_b_only(rt: HostRuntime) -> Result<(), Fail> {
     assert_eq!(rt; network.tie(1, 4), 6);
     assert_eq!(rt; network.tie(3, 0), 0);
     assert_eq!(rt; network.tie(0, 5), 0);
-    assert!(rt; network.into_memory().as_slice() == &[0, 255, 0, 0, 0, 6, 9]);
+    assert!(rt; network.into_memory().as_slice() == [0, 255, 0, 0, 0, 6, 9].as_slice());
     Ok(())
 }

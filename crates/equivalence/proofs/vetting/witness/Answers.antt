@@ -3,7 +3,7 @@ use Rattle.equivalence.specs.Regular.{Balanced, mates}
 use Rattle.equivalence.specs.Vetted.{table_of}
 use Rattle.equivalence.proofs.Balance.{balanced_mate}
 use Rattle.equivalence.proofs.vetting.witness.Goals as goal
-use Rattle.equivalence.proofs.vetting.witness.Goals.{then-head-z+in-default, else-head-z}
+use Rattle.equivalence.proofs.vetting.witness.Goals.{then-head-z+in_default, else-head-z}
 
 pub loop-z-preserved : goal.loop-z-preserved
 loop-z-preserved g c =
@@ -12,7 +12,7 @@ loop-z-preserved g c =
     let role = table_of c.args.table.now in
     let here : Balanced o m role (mates role c.loop-z.z) =
     elim c.if-head-z.branch [
-      | then-head-z+in-default w ↦ w.in-default.ensures
+      | then-head-z+in_default w ↦ w.in_default.ensures
       | else-head-z w ↦
           let h = c.head.result in
           balanced_mate o m role h c.loop-z.z c.head.ensures.mate (c.loop-z.invariant h (omega arith))

@@ -8,7 +8,7 @@ pub returns : goal.returns
 returns c =
     let n = c.args.n in
     let memory = c.args.memory in
-    let bytes = vec_items c.zero-out.new.bytes in
+    let bytes = vec_items c.zero_out.new.bytes in
     let passed : is_err (matrix_check n (vec_len memory)) ≡ false = search rules in
     let filled : bytes ≡ cleared (n * n) (vec_items memory) = search rules in
     record {

@@ -9,7 +9,7 @@ returns c =
     let a = c.args.a in
     let b = c.args.b in
     let memory = c.args.memory in
-    let bytes = vec_items c.zero-out.new.bytes in
+    let bytes = vec_items c.zero_out.new.bytes in
     let passed : is_err (two_mode_check a b (vec_len memory)) ≡ false = search rules in
     let filled : bytes ≡ cleared (a * b) (vec_items memory) = search rules in
     record {
