@@ -2,7 +2,7 @@
 --
 --   cleared       the first bytes set to 0
 --   written_at    the bytes after a put whose byte has this place
-use Rattle.std.specs.Prelude.{ℕ, List, ◌++◌, drop, set, replicate, Ok, Err, slice_set}
+use Rattle.std.specs.Prelude.{ℕ, List, ◌++◌, drop, replicate, Ok, Err, slice_set}
 use Rattle.network.specs.Meaning.{Meaning}
 use Rattle.network.specs.Put.{put_answer}
 
