@@ -1,9 +1,9 @@
 -- Regular equivalence, by its classical definition. Assumes nothing.
 --
 --   RegularEquivalence    of a relation on n nodes: nodes of one role are related to nodes of the same roles
---   tied_by                the relation 'i has a tie of kind k to j'
---   RegularInEach        a table that is a regular equivalence of each of the eight kinds
---   RegularUnderKinds    that is what regular means under kinds
+--   tied_by               the relation 'i has a tie of kind k to j'
+--   RegularInEach         a table that is a regular equivalence of each of the eight kinds
+--   RegularUnderKinds     that is what regular means under kinds
 use Rattle.std.specs.Prelude.{◌≡◌, ℕ, ◌<◌, true, ◌↔◌}
 use Rattle.network.specs.Meaning.{Meaning}
 use Rattle.measure.specs.Bits.{bit}

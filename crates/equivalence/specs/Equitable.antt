@@ -1,10 +1,10 @@
 -- Equitable partitions. Assumes nothing.
 --
---   out_neighbours         how many nodes of a set x has a tie to
---   in_neighbours          how many nodes of a set have a tie to x
---   Equitable              nodes of one role have equally many out_neighbours, and equally many in_neighbours, in each role
---   Counted                a total of tally has those two numbers
---   TrueCounts            so it is on at most 128 nodes: the cap of a count never binds
+--   out_neighbours       how many nodes of a set x has a tie to
+--   in_neighbours        how many nodes of a set have a tie to x
+--   Equitable            nodes of one role have equally many out-neighbours, and equally many in-neighbours, in each role
+--   Counted              a total of tally has those two numbers
+--   TrueCounts           so it is on at most 128 nodes: the cap of a count never binds
 --   RegularUnderTally    that is what regular means under tally, on at most 128 nodes
 use Rattle.std.specs.Prelude.{◌≡◌, ℕ, ◌<◌, ◌≤◌, Bool, ◌&&◌, ◌↔◌}
 use Rattle.network.specs.Meaning.{Meaning, tied, count_below}

@@ -1,8 +1,8 @@
 -- Multiplex regular equivalence, over kinds 0 to 2 and their inverses. Assumes nothing.
 --
---   Bundled                  x has a tie of one of these kinds with y, out or in
---   SameBundle              a has with c the kinds that b has with d, out and in, those and only those
---   MultiplexRegular        nodes of one role have the same bundles with nodes of the same roles
+--   Bundled                x has a tie of one of these kinds with y, out or in
+--   SameBundle             a has with c the kinds that b has with d, out and in, those and only those
+--   MultiplexRegular       nodes of one role have the same bundles with nodes of the same roles
 --   RegularUnderBundles    that is what regular means under bundles
 use Rattle.std.specs.Prelude.{◌≡◌, ℕ, ◌<◌, ◌⊎◌, ◌↔◌}
 use Rattle.network.specs.Meaning.{Meaning}

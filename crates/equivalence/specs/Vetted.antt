@@ -1,8 +1,8 @@
 -- What the vet answers. Assumes nothing.
 --
---   table_of       the table that a list of bytes is: equal bytes are one role
+--   table_of      the table that a list of bytes is: equal bytes are one role
 --   YesExactly    r says yes exactly when the table has one byte for each node, and is as P says
---   Vetted         r is an answer of the vet
+--   Vetted        r is an answer of the vet
 use Rattle.std.specs.Prelude.{◌≡◌, ℕ, ◌↔◌, List, length, Some, None, Ok, Err, Option, Result, ◌≢◌, slice_index}
 use Rattle.network.specs.Meaning.{Meaning}
 use Rattle.measure.specs.Measures.{Operations}

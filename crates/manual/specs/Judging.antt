@@ -2,7 +2,7 @@
 --
 --   VettedUnder    the answer of the vet under that measure
 --   InWords        what regular means under that measure
---   named           the name of the measure
+--   named          the name of the measure
 use Rattle.std.specs.Prelude.{ℕ, List, codes, Option, Result}
 use Rattle.network.specs.Meaning.{Meaning}
 use Rattle.measure.specs.Kinds.{kinds}

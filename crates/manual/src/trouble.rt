@@ -3,7 +3,7 @@ use std::alloc::AllocError;
 use std::error::Error;
 use std::{fmt, io};
 
-#[derive(Debug, Drop)]
+#[derive(Drop)]
 pub enum Trouble {
     Network(network::faults::Fault),
     Vet(equivalence::faults::Fault),
@@ -49,6 +49,13 @@ impl fmt::Display for Trouble {
             Trouble::Memory => write!(f, "out of memory"),
             Trouble::Output => write!(f, "the output cannot be written"),
         }
+    }
+}
+
+// What `main` returns is printed by this: the same words.
+impl fmt::Debug for Trouble {
+    fn fmt<W: fmt::Write>(&self, f: &mut fmt::Formatter<W>) -> fmt::Result {
+        write!(f, "{self}")
     }
 }
 
