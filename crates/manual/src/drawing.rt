@@ -22,7 +22,7 @@ fn tie_all<N: Editable>(network: &mut N, ties: &[(usize, usize)]) -> Result<(), 
 
 // The matrix of n nodes over the memory, with a tie of kind 0 for each pair, built through the calls.
 pub(crate) fn drawn(n: usize, memory: Vec<u8>, ties: &[(usize, usize)]) -> Result<Matrix, Fault>
-    ensures { MatchResult result (λ m. drawing n (vec_len memory) ties.now ≡ Ok (matrix_of m.n m.bytes.items)) (λ f. drawing n (vec_len memory) ties.now ≡ Err f) }
+    ensures { MatchResult result (λ m. drawing n (vec_len memory) ties.now ≡ Ok (matrix_of m.shape.n m.bytes.items)) (λ f. drawing n (vec_len memory) ties.now ≡ Err f) }
 {
     Matrix::check(n, &memory)?;
     let mut network = Matrix::new(n, memory);
@@ -37,7 +37,7 @@ pub(crate) fn drawn_sides(
     memory: Vec<u8>,
     ties: &[(usize, usize)],
 ) -> Result<TwoMode, Fault>
-    ensures { MatchResult result (λ m. drawing_sides a b (vec_len memory) ties.now ≡ Ok (two_mode_of m.a m.b m.bytes.items)) (λ f. drawing_sides a b (vec_len memory) ties.now ≡ Err f) }
+    ensures { MatchResult result (λ m. drawing_sides a b (vec_len memory) ties.now ≡ Ok (two_mode_of m.shape.a m.shape.b m.bytes.items)) (λ f. drawing_sides a b (vec_len memory) ties.now ≡ Err f) }
 {
     TwoMode::check(a, b, &memory)?;
     let mut network = TwoMode::new(a, b, memory);

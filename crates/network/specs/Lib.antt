@@ -1,7 +1,8 @@
 pub mod Meaning
 pub mod Faults
 pub mod Put
-pub mod Memory
+pub mod Layouts
 pub mod Matrices
 pub mod TwoModes
+pub mod LayoutLaws
 pub mod Layers

@@ -2,6 +2,8 @@
 ghost use Rattle.std.specs.Prelude.{◌≡◌};
 ghost use Rattle.network.specs.Faults.{number, layer};
 
+use thiserror::Error;
+
 // The part of the engine that refuses.
 #[derive(Clone, Copy, PartialEq, Eq, Debug)]
 pub enum Layer {
@@ -10,31 +12,25 @@ pub enum Layer {
 }
 
 // Why a network refuses.
-#[derive(Clone, Copy, PartialEq, Eq, Debug)]
+#[derive(Clone, Copy, PartialEq, Eq, Debug, Error)]
 pub enum Fault {
-    // There are not 1 to 128 nodes, or a side has none.
-    Size,
-    // The memory handed to the making is too short.
-    Memory,
-    // A node that is named is not below the number of nodes.
-    Node,
-    // The pair is not allowed.
-    Pair,
-    // The byte is not 0, the pair is untied, and as many pairs are tied as the cap allows.
-    Full,
+    #[error("there are not 1 to 128 nodes, or a side has none")]
+    Size = 1,
+    #[error("the memory handed to the making is too short")]
+    Memory = 2,
+    #[error("a node that is named is not below the number of nodes")]
+    Node = 3,
+    #[error("the pair is not allowed")]
+    Pair = 4,
+    #[error("the byte is not 0, the pair is untied, and as many pairs are tied as the cap allows")]
+    Full = 5,
 }
 
 impl Fault {
     pub fn number(self) -> u8
         ensures { result ≡ number self }
     {
-        match self {
-            Fault::Size => 1,
-            Fault::Memory => 2,
-            Fault::Node => 3,
-            Fault::Pair => 4,
-            Fault::Full => 5,
-        }
+        self as u8
     }
 
     pub fn layer(self) -> Layer

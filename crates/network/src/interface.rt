@@ -6,6 +6,7 @@ ghost use Rattle.network.specs.Put.{put_answer, put_after};
 use super::faults::Fault;
 
 // A network that can be read. Reading alters nothing.
+// A pair is two numbers in every call: of a type for pairs each caller would have to make one first.
 pub trait Readable {
     ghost meaning: { Self → Meaning };
 

@@ -6,8 +6,8 @@
 pub mod faults;
 // What a network tells and takes.
 pub mod interface;
-// What a making does to the memory that it is handed.
-mod memory;
+// A byte for each pair, in memory that is handed to the making.
+mod grid;
 // Every pair allowed, a byte for each.
 pub mod matrix;
 // Ties from one side to the other.

@@ -55,31 +55,24 @@ fn loops_that_are_there_are_still_read(rt: HostRuntime) -> Result<(), Fail> {
     Ok(())
 }
 
-// The number of a refused put's fault, and 0 for one that is taken. Every fault is the network's own.
-fn number(rt: &impl Abort, answer: Result<(), Fault>) -> Result<u8, Fail> {
-    match answer {
-        Ok(()) => Ok(0),
-        Err(fault) => {
-            assert_eq!(rt; fault.layer(), Layer::Network);
-            Ok(fault.number())
-        }
-    }
+// What a refused put tells of its fault.
+fn told(answer: Result<(), Fault>) -> Result<(), (Layer, u8)> {
+    answer.map_err(|fault| (fault.layer(), fault.number()))
 }
 
-fn refuses_in_order<N: Editable>(rt: &impl Abort, network: &mut N) -> Result<(), Fail> {
-    assert_eq!(rt; number(rt, network.put(0, 3, 1))?, 3);
-    assert_eq!(rt; number(rt, network.put(3, 3, 0))?, 3);
-    assert_eq!(rt; number(rt, network.put(2, 2, 0))?, 4);
+fn refuses_in_order<N: Editable>(rt: &impl Abort, network: &mut N) {
+    assert_eq!(rt; told(network.put(0, 3, 1)), Err((Layer::Network, 3)));
+    assert_eq!(rt; told(network.put(3, 3, 0)), Err((Layer::Network, 3)));
+    assert_eq!(rt; told(network.put(2, 2, 0)), Err((Layer::Network, 4)));
     // There is no room either, but the pair is asked first.
-    assert_eq!(rt; number(rt, network.put(2, 2, 1))?, 4);
-    assert_eq!(rt; number(rt, network.put(0, 2, 1))?, 5);
-    assert_eq!(rt; number(rt, network.put(0, 2, 0))?, 0);
+    assert_eq!(rt; told(network.put(2, 2, 1)), Err((Layer::Network, 4)));
+    assert_eq!(rt; told(network.put(0, 2, 1)), Err((Layer::Network, 5)));
+    assert_eq!(rt; told(network.put(0, 2, 0)), Ok(()));
     assert_eq!(rt; network.tie(0, 2), 0);
-    Ok(())
 }
 
 #[test]
-fn every_refusal_comes_through_two_layers(rt: HostRuntime) -> Result<(), Fail> {
-    refuses_in_order(&rt, &mut Turned(NoLoops(NoRoom)))?;
-    refuses_in_order(&rt, &mut NoLoops(Turned(NoRoom)))
+fn every_refusal_comes_through_two_layers(rt: HostRuntime) {
+    refuses_in_order(&rt, &mut Turned(NoLoops(NoRoom)));
+    refuses_in_order(&rt, &mut NoLoops(Turned(NoRoom)));
 }

@@ -1,0 +1,111 @@
+// A network that keeps a byte for each of its pairs, in memory that is handed to its making.
+ghost use Rattle.std.specs.Prelude.{◌≡◌, ◌≤◌, cond, length, nat_le, Ok, Err, vec_len, ◌≢◌};
+ghost use Rattle.network.specs.Layouts.{Layout, LaidOut, place_in, with_ties, kept, cleared, written};
+ghost use Rattle.network.specs.Put.{put_answer, put_after};
+
+use super::faults::Fault;
+use super::interface::{Editable, Readable};
+
+// The nodes of a network, and where the byte of each pair stands.
+// Public since the networks are types over it; its module is not, so that no other shape can be given.
+pub trait Shape: Copy {
+    ghost layout: { Self → Layout };
+
+    fn nodes(self) -> usize
+        ensures value { result ≡ (layout self).nodes }
+        ensures few { result ≤ 128 };
+
+    // How many pairs have a byte.
+    fn pairs(self) -> usize
+        ensures { result ≡ (layout self).pairs };
+
+    // Where the byte from i to j stands, `None` where the pair has none.
+    fn place(self, i: usize, j: usize) -> Option<usize>
+        ensures { result ≡ place_in (layout self) i j };
+
+    ghost laid_out: { (s : Self) → LaidOut (layout s) };
+}
+
+// The bytes past those of the pairs stay as they were handed.
+#[derive(Drop)]
+pub struct Grid<S: Shape> {
+    shape: S,
+    bytes: Vec<u8>,
+    ghost fits: { (S.layout shape).pairs ≤ vec_len bytes },
+}
+
+// Sets the first k bytes to 0.
+// A function of its own, and k beside the bytes: where a part of a `Vec` is lent to be filled, no fact says with what (tried).
+fn zero_out(bytes: &mut [u8], k: usize)
+    requires { k ≤ length bytes.old }
+    ensures value { bytes.new ≡ cleared k bytes.old }
+    ensures len { length bytes.new ≡ length bytes.old }
+{
+    bytes[..k].fill(0);
+}
+
+impl<S: Shape> Grid<S> {
+    // The shape, where the memory has a byte for each pair.
+    pub(crate) fn fitted(shape: S, memory: &[u8]) -> Result<S, Fault>
+        ensures { result ≡ cond (nat_le (S.layout shape).pairs (length memory.now)) (Ok shape) (Err Fault.Memory) }
+    {
+        if memory.len() < shape.pairs() {
+            return Err(Fault::Memory);
+        }
+        Ok(shape)
+    }
+
+    // The network of this shape without ties.
+    pub(crate) fn untied(shape: S, memory: Vec<u8>) -> Grid<S>
+        requires { (S.layout shape).pairs ≤ vec_len memory }
+        ensures shape { result.shape ≡ shape }
+        ensures meaning { kept (S.layout shape) result.bytes.items ≡ with_ties (S.layout shape) (λ _ _. 0) }
+        ensures memory { result.bytes.items ≡ cleared (S.layout shape).pairs memory.items }
+    {
+        let mut bytes = memory;
+        zero_out(&mut bytes, shape.pairs());
+        Grid { shape, bytes }
+    }
+
+    // Gives the memory back, the tie bytes first, then what stood past them at the making.
+    pub fn into_memory(self) -> Vec<u8>
+        ensures { result.items ≡ self.bytes.items }
+    {
+        let Grid { bytes, .. } = self;
+        bytes
+    }
+}
+
+impl<S: Shape> Readable for Grid<S> {
+    ghost meaning = { λ g. kept (S.layout g.shape) g.bytes.items };
+
+    fn nodes(&self) -> usize {
+        self.shape.nodes()
+    }
+
+    fn tie(&self, i: usize, j: usize) -> u8 {
+        match self.shape.place(i, j) {
+            Some(place) => self.bytes[place],
+            None => 0,
+        }
+    }
+}
+
+impl<S: Shape> Editable for Grid<S> {
+    // One byte at most differs. There is room for every pair that has a byte, so `Full` never comes.
+    fn put(&mut self, i: usize, j: usize, b: u8) -> Result<(), Fault>
+        ensures answer { result ≡ put_answer (kept (S.layout self.old.shape) self.old.bytes.items) i j b }
+        ensures after { kept (S.layout self.new.shape) self.new.bytes.items ≡ put_after (kept (S.layout self.old.shape) self.old.bytes.items) i j b }
+        ensures memory { self.new.bytes.items ≡ written (S.layout self.old.shape) self.old.bytes.items i j b }
+        ensures roomy { result ≢ Err Fault.Full }
+    {
+        if i >= self.nodes() || j >= self.nodes() {
+            return Err(Fault::Node);
+        }
+        let Some(place) = self.shape.place(i, j) else {
+            return Err(Fault::Pair);
+        };
+        self.bytes[place] = b;
+        Ok(())
+    }
+}
