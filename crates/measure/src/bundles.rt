@@ -1,18 +1,28 @@
 // Bundles: which combinations of kinds 0 to 2, out and in together, there are with a single node.
-ghost use Rattle.std.specs.Prelude.{◌≡◌};
+ghost use Rattle.std.specs.Prelude.{◌≡◌, Some, codes};
 ghost use Rattle.measure.specs.Bundles.{bundles, bundle};
 ghost use Rattle.measure.specs.BundleLaws.{bundles_laws};
 
 use super::interface::Measure;
 use super::members::has;
+use std::fmt;
 
 // A value of bundles.
 pub mod set;
 
 use set::BundleSet;
 
-#[derive(Clone, Copy)]
+#[derive(Clone, Copy, Debug)]
 pub struct Bundles;
+
+// By hand, as for the other measures: no derive states what is printed.
+impl fmt::Display for Bundles {
+    ghost output = { λ _. Some (codes "bundles") };
+
+    fn fmt<W: fmt::Write>(&self, f: &mut fmt::Formatter<W>) -> fmt::Result {
+        f.write_str("bundles")
+    }
+}
 
 impl Measure for Bundles {
     type Value = BundleSet;
@@ -42,7 +52,7 @@ impl Measure for Bundles {
     }
 
     fn same(&self, a: BundleSet, b: BundleSet) -> bool {
-        a.members == b.members
+        a == b
     }
 
     // Test t up to 63 asks for bundle t. No other holds.

@@ -19,10 +19,11 @@ pub trait Measure {
     fn join(&self, a: Self::Value, b: Self::Value) -> Self::Value
         ensures { result ≡ ops.join a b };
 
+    // Not provided by `==`: a host's measure need not have values that compare.
     fn same(&self, a: Self::Value, b: Self::Value) -> bool
         ensures { result ≡ ops.same a b };
 
-    // Whether test t holds of the value.
+    // Whether test t holds of the value. A test is a number: each measure has tests of its own, and a caller who asks about any measure passes the number on.
     fn holds(&self, v: Self::Value, t: u8) -> bool
         ensures { result ≡ ops.holds v t };
 

@@ -1,17 +1,28 @@
 // Kinds: which kinds of tie go out, and which come in.
+ghost use Rattle.std.specs.Prelude.{Some, codes};
 ghost use Rattle.measure.specs.Kinds.{kinds};
 ghost use Rattle.measure.specs.KindLaws.{kinds_laws};
 
 use super::interface::Measure;
 use super::members::has;
+use std::fmt;
 
 // A value of kinds.
 pub mod sets;
 
 use sets::KindSets;
 
-#[derive(Clone, Copy)]
+#[derive(Clone, Copy, Debug)]
 pub struct Kinds;
+
+// By hand, as for the other measures: no derive states what is printed.
+impl fmt::Display for Kinds {
+    ghost output = { λ _. Some (codes "kinds") };
+
+    fn fmt<W: fmt::Write>(&self, f: &mut fmt::Formatter<W>) -> fmt::Result {
+        f.write_str("kinds")
+    }
+}
 
 impl Measure for Kinds {
     type Value = KindSets;
@@ -36,7 +47,7 @@ impl Measure for Kinds {
     }
 
     fn same(&self, a: KindSets, b: KindSets) -> bool {
-        a.out == b.out && a.into == b.into
+        a == b
     }
 
     // Tests 0 to 7 ask for a kind that goes out, 8 to 15 for one that comes in. No other holds.

@@ -1,17 +1,27 @@
 // Tally: how many ties go out, and how many come in, whatever their kinds.
-ghost use Rattle.std.specs.Prelude.{◌≡◌};
+ghost use Rattle.std.specs.Prelude.{◌≡◌, Some, codes};
 ghost use Rattle.measure.specs.Tally.{tally, one_if_tied, capped_sum};
 ghost use Rattle.measure.specs.TallyLaws.{tally_laws};
 
 use super::interface::Measure;
+use std::fmt;
 
 // A value of tally.
 pub mod counts;
 
 use counts::Counts;
 
-#[derive(Clone, Copy)]
+#[derive(Clone, Copy, Debug)]
 pub struct Tally;
+
+// By hand, as for the other measures: no derive states what is printed.
+impl fmt::Display for Tally {
+    ghost output = { λ _. Some (codes "tally") };
+
+    fn fmt<W: fmt::Write>(&self, f: &mut fmt::Formatter<W>) -> fmt::Result {
+        f.write_str("tally")
+    }
+}
 
 impl Measure for Tally {
     type Value = Counts;
@@ -40,7 +50,7 @@ impl Measure for Tally {
     }
 
     fn same(&self, a: Counts, b: Counts) -> bool {
-        a.out == b.out && a.into == b.into
+        a == b
     }
 
     // Tests 0 to 127 ask for more than t ties that go out, 128 to 255 for more than t - 128 that come in.

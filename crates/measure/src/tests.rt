@@ -4,17 +4,16 @@ use super::interface::Measure;
 use super::kinds::Kinds;
 use super::tally::Tally;
 use std::process::Abort;
+use std::test::Fail;
 
-// The tests that hold of the value, as bits from test 0 up, 64 to a number.
+// The tests that hold of the value, as bits from test 0 up, 64 to a number, since the expected values are bits.
 fn held<M: Measure>(measure: &M, value: M::Value) -> [u64; 4] {
-    let mut bits = [0, 0, 0, 0];
-    for t in 0..=255u8 {
-        if measure.holds(value, t) {
-            let word = usize::from(t / 64);
-            bits[word] |= 1u64 << (t % 64);
-        }
-    }
-    bits
+    (0..=255u8)
+        .filter(|&t| measure.holds(value, t))
+        .fold([0; 4], |mut bits, t| {
+            bits[usize::from(t / 64)] |= 1u64 << (t % 64);
+            bits
+        })
 }
 
 // The laws of a measure at three values: commutative, associative, none neutral, two zero bytes none.
@@ -23,6 +22,13 @@ fn lawful<M: Measure>(rt: &impl Abort, m: &M, a: M::Value, b: M::Value, c: M::Va
     assert!(rt; m.same(m.join(m.join(a, b), c), m.join(a, m.join(b, c))));
     assert!(rt; m.same(m.join(a, m.none()), a));
     assert!(rt; m.same(m.weigh(0, 0), m.none()));
+}
+
+#[test]
+fn each_measure_has_its_name(rt: HostRuntime) -> Result<(), Fail> {
+    let names = format!(in rt.alloc(); "{Kinds} {Bundles} {Tally}")?;
+    assert_eq!(rt; names.as_str(), "kinds bundles tally");
+    Ok(())
 }
 
 #[test]
@@ -72,10 +78,7 @@ fn tally_counts_ties_whatever_their_kinds(rt: HostRuntime) {
 
 #[test]
 fn a_count_stops_at_128(rt: HostRuntime) {
-    let mut many = Tally.none();
-    for _ in 0..127 {
-        many = Tally.join(many, Tally.weigh(1, 0));
-    }
+    let many = (0..127).fold(Tally.none(), |sum, _| Tally.join(sum, Tally.weigh(1, 0)));
     assert_eq!(rt; many.out, 127);
     let full = Tally.join(many, Tally.weigh(1, 1));
     assert_eq!(rt; full.out, 128);

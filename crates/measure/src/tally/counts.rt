@@ -1,7 +1,7 @@
 // A value of tally: how many ties go out, and how many come in.
 ghost use Rattle.std.specs.Prelude.{◌≤◌};
 
-#[derive(Clone, Copy)]
+#[derive(Clone, Copy, PartialEq, Eq, Debug)]
 pub struct Counts {
     pub out: u8,
     pub into: u8,
