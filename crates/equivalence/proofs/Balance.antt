@@ -1,55 +1,66 @@
 -- Holding each node against the lowest of its role balances the table. Assumes nothing.
-use Rattle.std.proofs.Common.{◌≡◌, ℕ, ◌+◌, ◌<◌, ◌≤◌, Bool, eqb, List, length, Decides, sym, ap, ◌∙◌, subst, inl, inr, arith}
-use Rattle.std.proofs.lemmas.Bool.{cases_order, cases_lt}
-use Rattle.std.proofs.lemmas.Bool.Decides.{nat_tests, Decides-at, Decides-like}
+use Rattle.std.proofs.Common.{◌≡◌, ℕ, ◌<◌, ◌≤◌, Bool, eqb, List, length, Option, Some, None, MatchOption, sym, refl, ap, ◌∙◌, subst, inl, inr, arith}
+use Rattle.std.proofs.lemmas.Bool.{cases_order}
+use Rattle.std.proofs.lemmas.Bool.Decides.{nat_tests}
 use Rattle.network.specs.Meaning.{Meaning}
-use Rattle.measure.specs.Measures.{Operations, Laws}
+use Rattle.measure.specs.Measures.{Operations}
 use Rattle.equivalence.specs.Totals.{total, labelled}
-use Rattle.equivalence.specs.Regular.{Table, Balanced, mates}
+use Rattle.equivalence.specs.Regular.{Table, Agrees, Balanced, Heads, Strays, Unequal, mates}
 use Rattle.equivalence.specs.Vetted.{table_of}
 use Rattle.equivalence.proofs.Gathering.{total_same}
 
-module _ {V : Type 0} (role : Table) (value : ℕ → V) where
-  -- nodes of one role below n have one value
-  abbrev pub Agree : ℕ → Type 0
-  Agree n = (j k : ℕ) → j < k → k < n → role j ≡ role k → value j ≡ value k
+-- a role has one lowest node
+heads_one : (role : Table) (x y z : ℕ) → Heads role x z → Heads role y z → x ≡ y
+heads_one role x y z first second =
+    elim (cases_order x y) [
+      | inl same ↦ same
+      | inr (inl under) ↦ absurd (second.lowest x under first.mate)
+      | inr (inr over) ↦ absurd (first.lowest y over second.mate)
+    ]
 
-  -- y has one value with the lowest of its role, so with each of its role below it
-  agree_at : (y x : ℕ) → Agree y → role x ≡ role y → ((k : ℕ) → k < x → role k ≡ role y → ⊥) → (x < y → value x ≡ value y) → (j : ℕ) → j < y → role j ≡ role y → value j ≡ value y
-  agree_at y x below mate lowest here j lt e =
-      elim (cases_order j x) [
-        | inl same ↦ ap value same ∙ here (omega arith)
-        | inr (inl under) ↦ absurd (lowest j under e)
-        | inr (inr over) ↦ sym (below x j over lt (mate ∙ sym e)) ∙ here (omega arith)
-      ]
+module _ {V : Type 0} (o : Operations V) (m : Meaning) (role : Table) (among : ℕ → Bool) where
+  abbrev value : ℕ → V
+  value x = total o m x among
 
-  pub agree_more : (y x : ℕ) → Agree y → role x ≡ role y → ((k : ℕ) → k < x → role k ≡ role y → ⊥) → (x < y → value x ≡ value y) → Agree (y + 1)
-  agree_more y x below mate lowest here j k lt kn e =
-      elim (cases_lt k y) [
-        | inl inner ↦ below j k lt inner e
-        | inr outer ↦
-            let last : k ≡ y = omega arith in
-            agree_at y x below mate lowest here j (omega arith) (e ∙ ap role last) ∙ ap value (sym last)
-      ]
+  -- nodes of one role have one lowest, and so one total
+  balanced : ((y : ℕ) → 0 ≤ y → y < m.nodes → Agrees o m role among y) → Balanced o m role among
+  balanced agree x y hx hy e =
+      let (p, first, one) = agree x (omega arith) hx in
+      let (q, second, other) = agree y (omega arith) hy in
+      let heads : Heads role p y = record { mate = first.mate ∙ e; lowest = λ k l d. first.lowest k l (d ∙ sym e) } in
+      sym one ∙ ap value (heads_one role p q y heads second) ∙ other
 
-  pub agree_all : (n top : ℕ) → Agree n → top ≤ n → (x y : ℕ) → x < top → y < top → role x ≡ role y → value x ≡ value y
-  agree_all n top below all x y hx hy e =
-      elim (cases_order x y) [
-        | inl same ↦ ap value same
-        | inr (inl lt) ↦ below x y lt (omega arith) e
-        | inr (inr gt) ↦ sym (below y x gt (omega arith) (sym e))
-      ]
+  -- what a search for the first stray tells
+  pub first_stray : (X : ℕ → Type 0) (r : Option ℕ) → MatchOption r ((y : ℕ) → 0 ≤ y → y < m.nodes → Agrees o m role among y) (λ y. (0 ≤ y) × (y < m.nodes) × (Agrees o m role among y → ⊥) × X y) → MatchOption r (Balanced o m role among) (Strays o m role among)
+  first_stray X None agree = balanced agree
+  first_stray X (Some y) found = (found.1, found.2)
 
--- the set that the code reads is the role
-pub total_role : {V : Type 0} (o : Operations V) (m : Meaning) (table : List ℕ) (x z : ℕ) → length table ≡ m.nodes → total o m x (labelled table (table_of table z)) ≡ total o m x (mates (table_of table) z)
-total_role o m table x z fits = total_same o m x (labelled table (table_of table z)) (mates (table_of table) z) (λ y h. grind (arith, nat_tests))
+-- the set that the code reads is z's role
+module _ {V : Type 0} (o : Operations V) (m : Meaning) (table : List ℕ) (z : ℕ) (fits : length table ≡ m.nodes) where
+  abbrev read : ℕ → Bool
+  read = labelled table (table_of table z)
 
--- sameness of the totals that the code computes decides whether the totals toward the role are equal
-pub same_decides : {V : Type 0} (o : Operations V) → Laws o → (m : Meaning) (table : List ℕ) (x y z : ℕ) (a b : V) (r : Bool) → length table ≡ m.nodes → a ≡ total o m x (labelled table (table_of table z)) → b ≡ total o m y (labelled table (table_of table z)) → r ≡ o.same a b → Decides r (total o m x (mates (table_of table) z) ≡ total o m y (mates (table_of table) z))
-same_decides o laws m table x y z a b r fits ea eb er =
-    let p = ea ∙ total_role o m table x z fits in
-    let q = eb ∙ total_role o m table y z fits in
-    Decides-like r (λ e. sym p ∙ e ∙ q) (λ e. p ∙ e ∙ sym q) (Decides-at r (o.same a b) er (laws.sameness a b))
+  total_role : (x : ℕ) → total o m x read ≡ total o m x (mates (table_of table) z)
+  total_role x = total_same o m x read (mates (table_of table) z) (λ y h. grind (arith, nat_tests))
+
+  pub balanced_role : Balanced o m (table_of table) read → Balanced o m (table_of table) (mates (table_of table) z)
+  balanced_role balance x y hx hy e = sym (total_role x) ∙ balance x y hx hy e ∙ total_role y
+
+  -- a stray and the lowest node of its role
+  pub stray_unequal : (x y : ℕ) → z < m.nodes → Heads (table_of table) x y → Strays o m (table_of table) read y → Unequal o m (table_of table) x y z
+  stray_unequal x y toward heads stray =
+      let apart : total o m x read ≡ total o m y read → ⊥ = λ e. stray.1 (x, heads, e) in
+      record {
+        order = elim (cases_order x y) [
+          | inl same ↦ absurd (apart (ap (λ k. total o m k read) same))
+          | inr (inl under) ↦ under
+          | inr (inr over) ↦ absurd (heads.lowest y over refl)
+        ];
+        node = stray.0;
+        toward = toward;
+        together = heads.mate;
+        apart = λ e. apart (total_role x ∙ e ∙ sym (total_role y));
+      }
 
 -- one role is one set, whichever of its nodes names it
 pub balanced_mate : {V : Type 0} (o : Operations V) (m : Meaning) (role : Table) (h z : ℕ) → role h ≡ role z → Balanced o m role (mates role h) → Balanced o m role (mates role z)

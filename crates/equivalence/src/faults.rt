@@ -3,21 +3,21 @@ ghost use Rattle.std.specs.Prelude.{◌≡◌};
 ghost use Rattle.equivalence.specs.Faults.{number, layer};
 
 use network::faults::Layer;
+use thiserror::Error;
 
-// Why the vet refuses.
-#[derive(Clone, Copy, PartialEq, Eq, Debug)]
+// Why the vet refuses, with its number.
+#[derive(Clone, Copy, PartialEq, Eq, Debug, Error)]
 pub enum Fault {
-    // The table has not one byte for each node.
-    Length,
+    #[error("the table has not one byte for each node")]
+    Length = 10,
 }
 
+// Written here and for a network's faults: no code is generic over them, and a trait for two lines would have to be imported.
 impl Fault {
     pub fn number(self) -> u8
         ensures { result ≡ number self }
     {
-        match self {
-            Fault::Length => 10,
-        }
+        self as u8
     }
 
     pub fn layer(self) -> Layer

@@ -1,10 +1,12 @@
 // Small networks with known tables.
-use super::classical::{vet_bundles, vet_kinds, vet_tally};
+use super::classical::Classical;
 use super::faults::Fault;
 use super::totals::total_toward;
 use super::vetting::vet;
+use measure::bundles::Bundles;
 use measure::interface::Measure;
 use measure::kinds::Kinds;
+use measure::tally::Tally;
 use network::faults::Layer;
 use network::interface::Editable;
 use network::matrix::Matrix;
@@ -15,6 +17,12 @@ use std::alloc::Global;
 use std::process::Abort;
 use std::test::Fail;
 
+// A team of three, and one of two.
+const TEAMS: [(usize, usize); 3] = [(0, 1), (0, 2), (3, 4)];
+
+// A cycle of three nodes, and a mutual tie.
+const CYCLES: [(usize, usize); 5] = [(0, 1), (1, 2), (2, 0), (3, 4), (4, 3)];
+
 // A matrix of n nodes with byte 1 for each tie.
 fn matrix(
     rt: &impl Abort,
@@ -23,8 +31,8 @@ fn matrix(
     ties: &[(usize, usize)],
 ) -> Result<Matrix, Fail> {
     let mut network = Matrix::new(n, vec![in heap; 0; 81]?);
-    for (i, j) in ties {
-        assert!(rt; network.put(*i, *j, 1).is_ok());
+    for &(i, j) in ties {
+        assert!(rt; network.put(i, j, 1).is_ok());
     }
     Ok(network)
 }
@@ -34,7 +42,7 @@ fn an_isolate_is_not_a_sink(rt: HostRuntime) -> Result<(), Fail> {
     let network = matrix(&rt, rt.alloc(), 3, &[(0, 1)])?;
     assert_eq!(rt; vet(&network, &Kinds, &[0, 1, 1]), Ok(Some((1, 2, 0))));
     assert_eq!(rt; vet(&network, &Kinds, &[0, 1, 2]), Ok(None));
-    assert_eq!(rt; vet_kinds(&network, &[0, 0, 0]), Ok(Some((0, 1, 0))));
+    assert_eq!(rt; Kinds.vet(&network, &[0, 0, 0]), Ok(Some((0, 1, 0))));
     Ok(())
 }
 
@@ -74,38 +82,28 @@ fn a_chain_keeps_its_nodes_apart(rt: HostRuntime) -> Result<(), Fail> {
 
 #[test]
 fn roles_need_not_have_equal_numbers_of_ties(rt: HostRuntime) -> Result<(), Fail> {
-    let network = matrix(&rt, rt.alloc(), 5, &[(0, 1), (0, 2), (3, 4)])?;
+    let network = matrix(&rt, rt.alloc(), 5, &TEAMS)?;
     assert_eq!(rt; vet(&network, &Kinds, &[0, 1, 1, 0, 1]), Ok(None));
-    let cycles = matrix(
-        &rt,
-        rt.alloc(),
-        5,
-        &[(0, 1), (1, 2), (2, 0), (3, 4), (4, 3)],
-    )?;
+    let cycles = matrix(&rt, rt.alloc(), 5, &CYCLES)?;
     assert_eq!(rt; vet(&cycles, &Kinds, &[6, 6, 6, 6, 6]), Ok(None));
     Ok(())
 }
 
 #[test]
 fn tally_tells_numbers_of_ties_apart(rt: HostRuntime) -> Result<(), Fail> {
-    let network = matrix(&rt, rt.alloc(), 5, &[(0, 1), (0, 2), (3, 4)])?;
-    assert_eq!(rt; vet_bundles(&network, &[0, 1, 1, 0, 1]), Ok(None));
-    assert_eq!(rt; vet_tally(&network, &[0, 1, 1, 0, 1]), Ok(Some((0, 3, 1))));
-    assert_eq!(rt; vet_tally(&network, &[0, 1, 1, 3, 4]), Ok(None));
+    let network = matrix(&rt, rt.alloc(), 5, &TEAMS)?;
+    assert_eq!(rt; Bundles.vet(&network, &[0, 1, 1, 0, 1]), Ok(None));
+    assert_eq!(rt; Tally.vet(&network, &[0, 1, 1, 0, 1]), Ok(Some((0, 3, 1))));
+    assert_eq!(rt; Tally.vet(&network, &[0, 1, 1, 3, 4]), Ok(None));
     Ok(())
 }
 
 #[test]
 fn bundles_tell_a_mutual_tie_from_two_ties(rt: HostRuntime) -> Result<(), Fail> {
-    let cycles = matrix(
-        &rt,
-        rt.alloc(),
-        5,
-        &[(0, 1), (1, 2), (2, 0), (3, 4), (4, 3)],
-    )?;
-    assert_eq!(rt; vet_tally(&cycles, &[6, 6, 6, 6, 6]), Ok(None));
-    assert_eq!(rt; vet_bundles(&cycles, &[6, 6, 6, 6, 6]), Ok(Some((0, 3, 0))));
-    assert_eq!(rt; vet_bundles(&cycles, &[6, 6, 6, 7, 7]), Ok(None));
+    let cycles = matrix(&rt, rt.alloc(), 5, &CYCLES)?;
+    assert_eq!(rt; Tally.vet(&cycles, &[6, 6, 6, 6, 6]), Ok(None));
+    assert_eq!(rt; Bundles.vet(&cycles, &[6, 6, 6, 6, 6]), Ok(Some((0, 3, 0))));
+    assert_eq!(rt; Bundles.vet(&cycles, &[6, 6, 6, 7, 7]), Ok(None));
     Ok(())
 }
 
@@ -113,11 +111,11 @@ fn bundles_tell_a_mutual_tie_from_two_ties(rt: HostRuntime) -> Result<(), Fail> 
 fn bundles_look_at_three_kinds_and_tally_at_none(rt: HostRuntime) -> Result<(), Fail> {
     let mut network = matrix(&rt, rt.alloc(), 4, &[(0, 2), (1, 3)])?;
     assert!(rt; network.put(0, 2, 9).is_ok());
-    assert_eq!(rt; vet_bundles(&network, &[0, 0, 1, 1]), Ok(None));
-    assert!(rt; vet_kinds(&network, &[0, 0, 1, 1]) != Ok(None));
+    assert_eq!(rt; Bundles.vet(&network, &[0, 0, 1, 1]), Ok(None));
+    assert!(rt; Kinds.vet(&network, &[0, 0, 1, 1]) != Ok(None));
     assert!(rt; network.put(0, 2, 5).is_ok());
-    assert!(rt; vet_bundles(&network, &[0, 0, 1, 1]) != Ok(None));
-    assert_eq!(rt; vet_tally(&network, &[0, 0, 1, 1]), Ok(None));
+    assert!(rt; Bundles.vet(&network, &[0, 0, 1, 1]) != Ok(None));
+    assert_eq!(rt; Tally.vet(&network, &[0, 0, 1, 1]), Ok(None));
     Ok(())
 }
 
@@ -132,18 +130,18 @@ fn exams(rt: &impl Abort, heap: Global) -> Result<TwoMode, Fail> {
 #[test]
 fn two_modes_have_roles_across_both_sides(rt: HostRuntime) -> Result<(), Fail> {
     let network = exams(&rt, rt.alloc())?;
-    assert_eq!(rt; vet_kinds(&network, &[0, 0, 2, 1, 2]), Ok(None));
-    assert_eq!(rt; vet_bundles(&network, &[0, 0, 2, 1, 2]), Ok(None));
-    assert_eq!(rt; vet_tally(&network, &[0, 0, 2, 1, 2]), Ok(None));
-    assert_eq!(rt; vet_kinds(&network, &[0, 0, 0, 1, 1]), Ok(Some((3, 4, 0))));
+    assert_eq!(rt; Kinds.vet(&network, &[0, 0, 2, 1, 2]), Ok(None));
+    assert_eq!(rt; Bundles.vet(&network, &[0, 0, 2, 1, 2]), Ok(None));
+    assert_eq!(rt; Tally.vet(&network, &[0, 0, 2, 1, 2]), Ok(None));
+    assert_eq!(rt; Kinds.vet(&network, &[0, 0, 0, 1, 1]), Ok(Some((3, 4, 0))));
     Ok(())
 }
 
 #[test]
 fn a_layer_is_vetted_as_a_network(rt: HostRuntime) -> Result<(), Fail> {
     let network = NoLoops(Turned(exams(&rt, rt.alloc())?));
-    assert_eq!(rt; vet_kinds(&network, &[0, 0, 2, 1, 2]), Ok(None));
-    assert_eq!(rt; vet_kinds(&network, &[0, 0, 2, 1]), Err(Fault::Length));
+    assert_eq!(rt; Kinds.vet(&network, &[0, 0, 2, 1, 2]), Ok(None));
+    assert_eq!(rt; Kinds.vet(&network, &[0, 0, 2, 1]), Err(Fault::Length));
     let some = total_toward(&network, &Kinds, 3, &[0, 0, 2, 1, 2], 0);
     assert!(rt; Kinds.same(some, Kinds.weigh(1, 0)));
     Ok(())
@@ -182,9 +180,9 @@ fn a_table_of_another_length_is_refused(rt: HostRuntime) -> Result<(), Fail> {
     let network = matrix(&rt, rt.alloc(), 3, &[(0, 1)])?;
     assert_eq!(rt; vet(&network, &Kinds, &[0, 1]), Err(Fault::Length));
     assert_eq!(rt; vet(&network, &Kinds, &[0, 1, 2, 3]), Err(Fault::Length));
-    assert_eq!(rt; vet_kinds(&network, &[]), Err(Fault::Length));
-    assert_eq!(rt; vet_bundles(&network, &[0, 1]), Err(Fault::Length));
-    assert_eq!(rt; vet_tally(&network, &[0, 1, 2, 3]), Err(Fault::Length));
+    assert_eq!(rt; Kinds.vet(&network, &[]), Err(Fault::Length));
+    assert_eq!(rt; Bundles.vet(&network, &[0, 1]), Err(Fault::Length));
+    assert_eq!(rt; Tally.vet(&network, &[0, 1, 2, 3]), Err(Fault::Length));
     assert_eq!(rt; Fault::Length.number(), 10);
     assert_eq!(rt; Fault::Length.layer(), Layer::Vet);
     let memory = network.into_memory();

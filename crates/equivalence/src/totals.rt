@@ -15,13 +15,8 @@ pub fn total_toward<N: Readable, M: Measure>(
 ) -> M::Value
     ensures { result ≡ total M.Measure.ops (N.Readable.meaning network.now) x (labelled labels.now label) }
 {
-    let mut sum = measure.none();
-    for y in 0..network.nodes() {
-        if y < labels.len() && labels[y] == label {
-            let out = network.tie(x, y);
-            let into = network.tie(y, x);
-            sum = measure.join(sum, measure.weigh(out, into));
-        }
-    }
-    sum
+    (0..network.nodes())
+        .filter(|&y| labels.get(y) == Some(&label))
+        .map(|y| measure.weigh(network.tie(x, y), network.tie(y, x)))
+        .fold(measure.none(), |sum, value| measure.join(sum, value))
 }

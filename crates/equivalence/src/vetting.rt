@@ -1,7 +1,7 @@
 // Whether a table is regular.
-ghost use Rattle.std.specs.Prelude.{◌≡◌, ℕ, ◌<◌, ◌≤◌, length, Decides, MatchOption, ◌≢◌};
-ghost use Rattle.equivalence.specs.Totals.{total};
-ghost use Rattle.equivalence.specs.Regular.{Balanced, Regular, Unequal, mates};
+ghost use Rattle.std.specs.Prelude.{◌≡◌, ◌<◌, ◌≤◌, length, Decides, MatchOption};
+ghost use Rattle.equivalence.specs.Totals.{total, labelled};
+ghost use Rattle.equivalence.specs.Regular.{Agrees, Balanced, Heads, Regular, Strays, Unequal, mates};
 ghost use Rattle.equivalence.specs.Vetted.{Vetted, table_of};
 
 use super::faults::Fault;
@@ -9,86 +9,74 @@ use super::totals::total_toward;
 use measure::interface::Measure;
 use network::interface::Readable;
 
-// The lowest node of x's role.
-fn head(table: &[u8], x: usize) -> usize
-    requires { x < length table.now }
-    ensures within { result ≤ x }
-    ensures mate { table_of table.now result ≡ table_of table.now x }
-    ensures lowest { (k : ℕ) → k < result → table_of table.now k ≢ table_of table.now x }
-{
-    for k in 0..x {
-        if table[k] == table[x] {
-            return k;
-        }
+// A table with a byte for each node, held against its network under a measure.
+#[derive(Drop)]
+struct Vetting<'a, N: Readable, M: Measure> {
+    network: &'a N,
+    measure: &'a M,
+    table: &'a [u8],
+    ghost fits: { length table.now ≡ (N.Readable.meaning network.now).nodes },
+}
+
+impl<'a, N: Readable, M: Measure> Vetting<'a, N, M> {
+    // The lowest node of x's role.
+    fn head(&self, x: usize) -> usize
+        requires { x < length self.now.table.now }
+        ensures within { result ≤ x }
+        ensures lowest { Heads (table_of self.now.table.now) result x }
+    {
+        (0..x)
+            .find(|&k| self.table[k] == self.table[x])
+            .unwrap_or(x)
     }
-    x
-}
 
-// Whether x and y have equal totals toward z's role.
-fn alike<N: Readable, M: Measure>(
-    network: &N,
-    measure: &M,
-    table: &[u8],
-    x: usize,
-    y: usize,
-    z: usize,
-) -> bool
-    requires table { length table.now ≡ (N.Readable.meaning network.now).nodes }
-    requires node { z < length table.now }
-    ensures { Decides result
-        (total M.Measure.ops (N.Readable.meaning network.now) x (mates (table_of table.now) z)
-        ≡ total M.Measure.ops (N.Readable.meaning network.now) y (mates (table_of table.now) z)) }
-{
-    let first = total_toward(network, measure, x, table, table[z]);
-    let second = total_toward(network, measure, y, table, table[z]);
-    measure.same(first, second)
-}
-
-// Two nodes of one role with unequal totals toward z's role, the lower first. Holds each node against the lowest of its role.
-fn witness_toward<N: Readable, M: Measure>(
-    network: &N,
-    measure: &M,
-    table: &[u8],
-    z: usize,
-) -> Option<(usize, usize)>
-    requires table { length table.now ≡ (N.Readable.meaning network.now).nodes }
-    requires node { z < length table.now }
-    ensures { MatchOption result
-        (Balanced M.Measure.ops (N.Readable.meaning network.now) (table_of table.now) (mates (table_of table.now) z))
-        (λ p. Unequal M.Measure.ops (N.Readable.meaning network.now) (table_of table.now) p.0 p.1 z) }
-{
-    for y in 0..table.len() {
-        let x = head(table, y);
-        if x < y && !alike(network, measure, table, x, y, z) {
-            return Some((x, y));
-        }
+    // The total of x toward a role.
+    fn total(&self, x: usize, role: u8) -> M::Value
+        ensures { result ≡ total M.Measure.ops (N.Readable.meaning self.now.network.now) x (labelled self.now.table.now role) }
+    {
+        total_toward(self.network, self.measure, x, self.table, role)
     }
-    None
-}
 
-// Three nodes that show that the table is not regular, or none where it is.
-fn witness<N: Readable, M: Measure>(
-    network: &N,
-    measure: &M,
-    table: &[u8],
-) -> Option<(usize, usize, usize)>
-    requires { length table.now ≡ (N.Readable.meaning network.now).nodes }
-    ensures { MatchOption result
-        (Regular M.Measure.ops (N.Readable.meaning network.now) (table_of table.now))
-        (λ w. Unequal M.Measure.ops (N.Readable.meaning network.now) (table_of table.now) w.0 w.1 w.2) }
-{
-    for z in 0..table.len() {
-        if head(table, z) == z {
-            if let Some((x, y)) = witness_toward(network, measure, table, z) {
-                return Some((x, y, z));
+    // Whether y has the total toward the role that the lowest node of its own role has.
+    fn agrees(&self, y: usize, role: u8) -> bool
+        requires { y < length self.now.table.now }
+        ensures { Decides result (Agrees M.Measure.ops (N.Readable.meaning self.now.network.now) (table_of self.now.table.now) (labelled self.now.table.now role) y) }
+    {
+        let x = self.head(y);
+        x == y || self.measure.same(self.total(x, role), self.total(y, role))
+    }
+
+    // The first node that does not agree, none where the table is balanced toward the role.
+    fn stray(&self, role: u8) -> Option<usize>
+        ensures { MatchOption result
+            (Balanced M.Measure.ops (N.Readable.meaning self.now.network.now) (table_of self.now.table.now) (labelled self.now.table.now role))
+            (Strays M.Measure.ops (N.Readable.meaning self.now.network.now) (table_of self.now.table.now) (labelled self.now.table.now role)) }
+    {
+        (0..self.table.len()).find(|&y| !self.agrees(y, role))
+    }
+
+    // Three nodes that show that the table is not regular, or none where it is.
+    fn witness(&self) -> Option<(usize, usize, usize)>
+        ensures { MatchOption result
+            (Regular M.Measure.ops (N.Readable.meaning self.now.network.now) (table_of self.now.table.now))
+            (λ w. Unequal M.Measure.ops (N.Readable.meaning self.now.network.now) (table_of self.now.table.now) w.0 w.1 w.2) }
+    {
+        // A `for`: where a filter's test is no function of the node, as `head` is none here, nothing is known of the nodes
+        // that it leaves out; std has no lemma on a `find_map` over a range; and a `find` would have to call `stray` twice.
+        for z in 0..self.table.len() {
+            if self.head(z) == z {
+                if let Some(y) = self.stray(self.table[z]) {
+                    return Some((self.head(y), y, z));
+                }
             }
         }
+        None
     }
-    None
 }
 
 // Whether the table is regular, equal bytes being one role: none where it is, else three nodes that show that it is not.
 // At most 2 n * n weighs and 3 n * n * n comparisons of table bytes; no memory but the answer.
+// The nodes are plain numbers in the answer, as in every call of the engine.
 pub fn vet<N: Readable, M: Measure>(
     network: &N,
     measure: &M,
@@ -99,5 +87,10 @@ pub fn vet<N: Readable, M: Measure>(
     if table.len() != network.nodes() {
         return Err(Fault::Length);
     }
-    Ok(witness(network, measure, table))
+    let vetting = Vetting {
+        network,
+        measure,
+        table,
+    };
+    Ok(vetting.witness())
 }

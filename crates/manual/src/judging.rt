@@ -3,8 +3,11 @@ ghost use Rattle.std.specs.Prelude.{◌≡◌};
 ghost use Rattle.equivalence.specs.Vetted.{YesExactly};
 ghost use Rattle.manual.specs.Judging.{VettedUnder, InWords, named};
 
-use equivalence::classical::{vet_bundles, vet_kinds, vet_tally};
+use equivalence::classical::Classical;
 use equivalence::faults::Fault;
+use measure::bundles::Bundles;
+use measure::kinds::Kinds;
+use measure::tally::Tally;
 use network::interface::Readable;
 
 #[derive(Clone, Copy)]
@@ -35,8 +38,8 @@ pub(crate) fn vetted<N: Readable>(
     ensures classical { YesExactly (N.meaning network.now) table.now result (InWords measure (N.meaning network.now)) }
 {
     match measure {
-        MeasureName::Kinds => vet_kinds(network, table),
-        MeasureName::Bundles => vet_bundles(network, table),
-        MeasureName::Tally => vet_tally(network, table),
+        MeasureName::Kinds => Kinds.vet(network, table),
+        MeasureName::Bundles => Bundles.vet(network, table),
+        MeasureName::Tally => Tally.vet(network, table),
     }
 }

@@ -1,23 +1,27 @@
-use Rattle.std.proofs.Common.{◌≡◌, true, false, ◌∙◌, arith}
-use Rattle.std.proofs.lemmas.Bool.Decides.{nat_tests}
+use Rattle.std.proofs.Common.{rules, ◌≡◌, ◌∙◌, ℕ, map, filter, tests, refl, arith}
+use Rattle.std.specs.List.{fold, range_with_len}
+use Rattle.std.proofs.lemmas.Iterator.{YieldsList-from_range, YieldsList-from_map}
+use Rattle.std.proofs.lemmas.Iterator.Consumers.{YieldsList-at, YieldsList-from_filter, fold_from_yields_List}
 use Rattle.equivalence.specs.Totals.{labelled}
-use Rattle.equivalence.proofs.Gathering.{total_more_in, total_more_out}
+use Rattle.equivalence.proofs.Gathering.{gather_filter}
 use Rattle.equivalence.proofs.totals.total_toward.Goals as goal
-use Rattle.equivalence.proofs.totals.total_toward.Goals.{then-y-labels+then-labels-y, else-y-labels}
 
-pub loop-y-preserved : goal.loop-y-preserved
-loop-y-preserved g c =
+-- the chain from its last call to its first, and then the sum that it makes
+pub returns : goal.returns
+returns g c =
     let o = g.M.Measure.ops in
     let m = g.N.Readable.meaning c.args.network.now in
-    let x = c.args.x in
-    let y = c.loop-y.y in
+    let brought = λ (y : ℕ). o.weigh (m.tie c.args.x y) (m.tie y c.args.x) in
     let among = labelled c.args.labels.now c.args.label in
-    elim c.if-y-labels.branch [
-      | then-y-labels+then-labels-y w ↦
-          let inner : among y ≡ true = grind (arith, nat_tests) in
-          let weighed : w.weigh.result ≡ o.weigh (m.tie x y) (m.tie y x) = cc in
-          w.sum-is ∙ w.join-sum.ensures ∙ total_more_in o m x among y _ _ c.loop-y.invariant inner weighed
-      | else-y-labels w ↦
-          let outer : among y ≡ false = grind (arith, nat_tests) in
-          w.sum-is ∙ total_more_out o m x among g.met.M.Measure.lawful y _ c.loop-y.invariant outer
-    ]
+    let n = c.nodes.result in
+    let folded : c.fold.result ≡ fold o.join c.none.result (map brought (filter among (range_with_len 0 n))) =
+    fold_from_yields_List _ o.join _ _ c.fold.ensures.ran
+    (YieldsList-from_map _ brought
+    (YieldsList-at c.map.ensures.source
+    (YieldsList-from_filter _ among
+    (YieldsList-at c.filter.ensures.source (YieldsList-from_range 0 n n refl (omega arith)))
+    c.filter.ensures.closure (λ y b q k. search (rules, tests))))
+    c.map.ensures.closure (λ y r q k. search rules))
+    (λ a v b q k. search rules)
+    in
+    rw (c.none.ensures, c.nodes.ensures.value) at folded ∙ gather_filter o g.met.M.Measure.lawful brought among m.nodes

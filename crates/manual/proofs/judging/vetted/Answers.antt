@@ -1,6 +1,4 @@
 use Rattle.manual.proofs.judging.vetted.Goals as goal
 
-pub returns-in-Tally : goal.returns-in-Tally
-returns-in-Tally g c =
-    let e = c.in-Tally.is in
-    record { vetted = rw e c.vet_tally.ensures.vetted; classical = rw e c.vet_tally.ensures.classical }
+pub returns-in-Tally-clause-classical : goal.returns-in-Tally-clause-classical
+returns-in-Tally-clause-classical g c = rw c.in-Tally.is c.vet-in-Tally.ensures.classical

@@ -4,14 +4,13 @@ use Rattle.equivalence.specs.Multiplex.{MultiplexRegular}
 use Rattle.equivalence.specs.Vetted.{table_of}
 use Rattle.equivalence.proofs.Verdicts.{yes_in_words}
 use Rattle.equivalence.proofs.MultiplexEquivalence.{regular_under_bundles}
-use Rattle.equivalence.proofs.classical.vet_bundles.Goals as goal
+use Rattle.equivalence.proofs.classical.BundlesClassical.vet.Goals as goal
 
-pub returns : goal.returns
-returns g c =
+pub returns-clause-classical : goal.returns-clause-classical
+returns-clause-classical g c =
     let m = g.N.Readable.meaning c.args.network.now in
     let table = c.args.table.now in
-    record {
-      vetted = c.vet.ensures;
-      classical = yes_in_words m table _ (Regular bundles m) (MultiplexRegular m) (regular_under_bundles m (table_of table)) c.vet.ensures.yes_when;
-      theorem = regular_under_bundles;
-    }
+    yes_in_words m table _ (Regular bundles m) (MultiplexRegular m) (regular_under_bundles m (table_of table)) c.vet.ensures.yes_when
+
+pub returns-clause-theorem : goal.returns-clause-theorem
+returns-clause-theorem g c = regular_under_bundles
