@@ -1,2 +1,2 @@
-pub mod Drawings
 pub mod DrawnTies
+pub mod Below

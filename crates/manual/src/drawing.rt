@@ -10,14 +10,15 @@ use network::matrix::Matrix;
 use network::two_mode::TwoMode;
 
 // Puts byte 1 for each pair, in order, up to the first refusal. On a network without ties, these pairs are then tied and no other.
-fn tie_all<N: Editable>(network: &mut N, ties: &[(usize, usize)]) -> Result<(), Fault>
-    ensures built { MatchResult result (λ _. drawn_from (N.Readable.meaning network.old) ties.now ≡ Ok (N.Readable.meaning network.new)) (λ f. drawn_from (N.Readable.meaning network.old) ties.now ≡ Err f) }
+#[tactic(auto, using(crate::proofs::DrawnTies::drawn_law))]
+fn tied<N: Editable + Drop>(mut network: N, ties: &[(usize, usize)]) -> Result<N, Fault>
+    ensures built { MatchResult result (λ m. drawn_from (N.Readable.meaning network) ties.now ≡ Ok (N.Readable.meaning m)) (λ f. drawn_from (N.Readable.meaning network) ties.now ≡ Err f) }
     ensures law { Drawn }
 {
-    for (i, j) in ties {
-        network.put(*i, *j, 1)?;
+    for &(i, j) in ties {
+        network.put(i, j, 1)?;
     }
-    Ok(())
+    Ok(network)
 }
 
 // The matrix of n nodes over the memory, with a tie of kind 0 for each pair, built through the calls.
@@ -25,12 +26,10 @@ pub(crate) fn drawn(n: usize, memory: Vec<u8>, ties: &[(usize, usize)]) -> Resul
     ensures { MatchResult result (λ m. drawing n (vec_len memory) ties.now ≡ Ok (matrix_of m.shape.n m.bytes.items)) (λ f. drawing n (vec_len memory) ties.now ≡ Err f) }
 {
     Matrix::check(n, &memory)?;
-    let mut network = Matrix::new(n, memory);
-    tie_all(&mut network, ties)?;
-    Ok(network)
+    tied(Matrix::new(n, memory), ties)
 }
 
-// The two-mode network of a and b nodes over the memory, likewise.
+// The two-mode network of a and b nodes over the memory, likewise. Beside `drawn`, since a making takes a number of nodes or two sides.
 pub(crate) fn drawn_sides(
     a: usize,
     b: usize,
@@ -40,7 +39,5 @@ pub(crate) fn drawn_sides(
     ensures { MatchResult result (λ m. drawing_sides a b (vec_len memory) ties.now ≡ Ok (two_mode_of m.shape.a m.shape.b m.bytes.items)) (λ f. drawing_sides a b (vec_len memory) ties.now ≡ Err f) }
 {
     TwoMode::check(a, b, &memory)?;
-    let mut network = TwoMode::new(a, b, memory);
-    tie_all(&mut network, ties)?;
-    Ok(network)
+    tied(TwoMode::new(a, b, memory), ties)
 }

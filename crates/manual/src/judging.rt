@@ -1,45 +1,19 @@
-// The vet under a measure that the page names.
-ghost use Rattle.std.specs.Prelude.{◌≡◌};
-ghost use Rattle.equivalence.specs.Vetted.{YesExactly};
-ghost use Rattle.manual.specs.Judging.{VettedUnder, InWords, named};
+// The vet's verdict on a table, under a measure.
+ghost use Rattle.equivalence.specs.Vetted.{Vetted, YesExactly};
+ghost use Rattle.manual.specs.Judging.{answer_of};
 
+use super::words::Verdict;
 use equivalence::classical::Classical;
 use equivalence::faults::Fault;
-use measure::bundles::Bundles;
-use measure::kinds::Kinds;
-use measure::tally::Tally;
 use network::interface::Readable;
 
-#[derive(Clone, Copy)]
-pub(crate) enum MeasureName {
-    Kinds,
-    Bundles,
-    Tally,
-}
-
-impl MeasureName {
-    pub(crate) fn text(self) -> &'static str
-        ensures { result.now ≡ named self }
-    {
-        match self {
-            MeasureName::Kinds => "kinds",
-            MeasureName::Bundles => "bundles",
-            MeasureName::Tally => "tally",
-        }
-    }
-}
-
-pub(crate) fn vetted<N: Readable>(
+pub(crate) fn judged<N: Readable, M: Classical>(
     network: &N,
-    measure: MeasureName,
+    measure: &M,
     table: &[u8],
-) -> Result<Option<(usize, usize, usize)>, Fault>
-    ensures vetted { VettedUnder measure (N.meaning network.now) table.now result }
-    ensures classical { YesExactly (N.meaning network.now) table.now result (InWords measure (N.meaning network.now)) }
+) -> Result<Verdict, Fault>
+    ensures vetted { Vetted M.Measure.ops (N.meaning network.now) table.now (answer_of result) }
+    ensures classical { YesExactly (N.meaning network.now) table.now (answer_of result) (M.notion (N.meaning network.now)) }
 {
-    match measure {
-        MeasureName::Kinds => Kinds.vet(network, table),
-        MeasureName::Bundles => Bundles.vet(network, table),
-        MeasureName::Tally => Tally.vet(network, table),
-    }
+    measure.vet(network, table).map(Verdict)
 }

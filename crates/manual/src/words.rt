@@ -1,91 +1,91 @@
 // What the page says.
-ghost use Rattle.std.specs.Prelude.{◌≡◌, IfOk, string_bytes, Decides};
+ghost use Rattle.std.specs.Prelude.{Decides, Some};
 ghost use Rattle.manual.specs.Drawing.{Isolated};
-ghost use Rattle.manual.specs.Words.{reason_words, verdict_words, refusal_words, outcome_words};
+ghost use Rattle.manual.specs.Words.{verdict_words, outcome_words};
 
 use network::faults::Fault;
 use network::interface::Readable;
-use std::alloc::{AllocError, Global};
-
-fn reason(heap: Global, x: usize, y: usize, z: usize) -> Result<String, AllocError>
-    ensures { IfOk result (λ s. string_bytes s ≡ reason_words x y z) }
-{
-    format!(in heap;
-        "are not regular: nodes {x} and {y} share a role, yet differ toward the role of node {z}."
-    )
-}
+use std::fmt;
 
 // What the vet's answer says of a table.
-pub(crate) fn verdict(
-    heap: Global,
-    answer: Option<(usize, usize, usize)>,
-) -> Result<String, AllocError>
-    ensures { IfOk result (λ s. string_bytes s ≡ verdict_words answer) }
-{
-    match answer {
-        None => String::from_str(heap, "are regular."),
-        Some((x, y, z)) => reason(heap, x, y, z),
-    }
-}
+#[derive(Clone, Copy)]
+pub(crate) struct Verdict(pub(crate) Option<(usize, usize, usize)>);
 
-fn refusal(heap: Global, number: u8) -> Result<String, AllocError>
-    ensures { IfOk result (λ s. string_bytes s ≡ refusal_words number) }
-{
-    format!(in heap; "refused with {number}")
+impl fmt::Display for Verdict {
+    ghost output = { λ v. Some (verdict_words v.0) };
+
+    fn fmt<W: fmt::Write>(&self, f: &mut fmt::Formatter<W>) -> fmt::Result {
+        match self.0 {
+            None => f.write_str("are regular."),
+            Some((x, y, z)) => write!(
+                f,
+                "are not regular: nodes {x} and {y} share a role, yet differ toward the role of node {z}."
+            ),
+        }
+    }
 }
 
 // What a put's answer says.
-pub(crate) fn outcome(heap: Global, answer: Result<(), Fault>) -> Result<String, AllocError>
-    ensures { IfOk result (λ s. string_bytes s ≡ outcome_words answer) }
-{
-    match answer {
-        Ok(()) => String::from_str(heap, "taken"),
-        Err(fault) => refusal(heap, fault.number()),
-    }
-}
+#[derive(Clone, Copy)]
+pub(crate) struct Outcome(pub(crate) Result<(), Fault>);
 
-// One more part of a list.
-fn add(all: &mut String, part: &str) -> Result<(), AllocError> {
-    if !all.is_empty() {
-        all.push_str(", ")?;
+impl fmt::Display for Outcome {
+    ghost output = { λ o. Some (outcome_words o.0) };
+
+    fn fmt<W: fmt::Write>(&self, f: &mut fmt::Formatter<W>) -> fmt::Result {
+        match self.0 {
+            Ok(()) => f.write_str("taken"),
+            Err(fault) => write!(f, "refused with {}", fault.number()),
+        }
     }
-    all.push_str(part)
 }
 
 // The roles of the nodes, in order.
-pub(crate) fn listed(heap: Global, table: &[u8]) -> Result<String, AllocError> {
-    let mut all = String::new(heap);
-    for role in table {
-        add(&mut all, &format!(in heap; "{role}")?)?;
+#[derive(Clone, Copy)]
+pub(crate) struct Roles<'a>(pub(crate) &'a [u8]);
+
+impl fmt::Display for Roles<'_> {
+    fn fmt<W: fmt::Write>(&self, f: &mut fmt::Formatter<W>) -> fmt::Result {
+        let mut separator = "";
+        for role in self.0 {
+            write!(f, "{separator}{role}")?;
+            separator = ", ";
+        }
+        Ok(())
     }
-    Ok(all)
 }
 
 // Whether x has no tie, out or in.
 fn isolated<N: Readable>(network: &N, x: usize) -> bool
     ensures { Decides result (Isolated (N.meaning network.now) x) }
 {
-    for y in 0..network.nodes() {
-        if network.tie(x, y) > 0 || network.tie(y, x) > 0 {
-            return false;
-        }
-    }
-    true
+    (0..network.nodes()).all(|y| network.tie(x, y) == 0 && network.tie(y, x) == 0)
 }
 
 // Each tied pair of the network, and each node without a tie.
-pub(crate) fn ties<N: Readable>(heap: Global, network: &N) -> Result<String, AllocError> {
-    let mut all = String::new(heap);
-    let n = network.nodes();
-    for i in 0..n {
-        if isolated(network, i) {
-            add(&mut all, &format!(in heap; "{i} has no tie")?)?;
-        }
-        for j in 0..n {
-            if network.tie(i, j) > 0 {
-                add(&mut all, &format!(in heap; "{i} is tied to {j}")?)?;
+#[derive(Drop)]
+pub(crate) struct Ties<'a, N>(pub(crate) &'a N);
+
+impl<N: Readable> fmt::Display for Ties<'_, N> {
+    fn fmt<W: fmt::Write>(&self, f: &mut fmt::Formatter<W>) -> fmt::Result {
+        let network = self.0;
+        let n = network.nodes();
+        // Both loops are `for`s: a chain would have to carry the separator and a failed write through its closures.
+        // Over a filtered range the inner one is not proved (tried).
+        let mut separator = "";
+        for i in 0..n {
+            if isolated(network, i) {
+                write!(f, "{separator}{i} has no tie")?;
+                separator = ", ";
+            }
+            for j in 0..n {
+                if network.tie(i, j) == 0 {
+                    continue;
+                }
+                write!(f, "{separator}{i} is tied to {j}")?;
+                separator = ", ";
             }
         }
+        Ok(())
     }
-    Ok(all)
 }

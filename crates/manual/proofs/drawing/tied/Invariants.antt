@@ -1,6 +1,6 @@
 use Rattle.std.proofs.Common.{◌≡◌, drop}
 use Rattle.manual.specs.Drawing.{drawn_from}
-use Rattle.manual.proofs.drawing.tie_all.Given as goal
+use Rattle.manual.proofs.drawing.tied.Given as goal
 
 -- what is left to draw gives what the whole gives
 abbrev pub invariant-loop-i : goal.invariant-loop-i
