@@ -1,26 +1,19 @@
--- Each change of the table keeps what its records say. Assumes nothing.
+-- Each change of the table keeps what its records say. What founds, moves or opens a role is for steps to come. Assumes nothing.
 use Rattle.std.proofs.Common.{◌≡◌, ℕ, ◌+◌, ◌-◌, ◌<◌, ◌≤◌, cond, eqb, sym, refl, ap, ◌∙◌, inl, inr, add-one, arith}
 use Rattle.std.proofs.lemmas.Bool.{cases_eq, cases_lt, eq-eqb, ne_eqb}
 use Rattle.network.specs.Meaning.{count_below}
 use Rattle.network.proofs.Counting.{sum_below_none, count_below_same, count_below_more}
 use Rattle.equivalence.specs.Regular.{Table}
 use Rattle.equivalence.specs.Splitting.{members}
-use Rattle.session.specs.Roles.{Ranged, Headed, Lowest, Sized}
+use Rattle.session.specs.Roles.{Ranged, Recorded}
+use Rattle.session.specs.declared.role.Role.{Role}
 
-pub record Kept (nodes : ℕ) (role : Table) (count : ℕ) (head size : ℕ → ℕ) : Type 0 where
-  pub few : nodes ≤ 128
-  pub packed : count ≤ nodes
-  pub ranged : Ranged nodes role count
-  pub headed : Headed nodes role count head
-  pub lowest : Lowest role count head
-  pub sized : Sized nodes role count size
-
--- x takes role r, and every other node keeps its role
-pub record Takes (old new : Table) (x r : ℕ) : Type 0 where
-  pub here : new x ≡ r
+-- new is old with v at x
+pub record Puts {V : Type 0} (old new : ℕ → V) (x : ℕ) (v : V) : Type 0 where
+  pub here : new x ≡ v
   pub off : (y : ℕ) → (y ≡ x → ⊥) → new y ≡ old y
 
-module _ (old new : Table) (x r : ℕ) (takes : Takes old new x r) where
+module _ (old new : Table) (x r : ℕ) (takes : Puts old new x r) where
   off_members : (s y : ℕ) → (y ≡ x → ⊥) → members old s y ≡ members new s y
   off_members s y ne = ap (λ v. eqb v s) (sym (takes.off y ne))
 
@@ -53,183 +46,148 @@ module _ (old new : Table) (x r : ℕ) (takes : Takes old new x r) where
           | inr ne ↦ sym (off_members s k ne)
         ])
 
-module _ (n : ℕ) (role role' : Table) (count : ℕ) (head size head' size' : ℕ → ℕ) (kept : Kept n role count head size) where
+-- a record's size becomes n
+module _ (old new : ℕ → Role) (r n : ℕ) (sizes : Puts old new r (record { head = (old r).head; size = n })) where
+  same_head : (s : ℕ) → (new s).head ≡ (old s).head
+  same_head s =
+      elim (cases_eq s r) [
+        | inl e ↦ ap (λ t. (new t).head) e ∙ ap (λ v. v.head) sizes.here ∙ ap (λ t. (old t).head) (sym e)
+        | inr ne ↦ ap (λ v. v.head) (sizes.off s ne)
+      ]
+
+abbrev RecordedAt : ℕ → Table → ℕ → (ℕ → Role) → Type 0
+RecordedAt n role count records = Recorded n role count (λ s. (records s).head) (λ s. (records s).size)
+
+abbrev pub grown : Role → Role
+grown v = record { head = v.head; size = v.size + 1 }
+
+abbrev pub shrunk : Role → Role
+shrunk v = record { head = v.head; size = v.size - 1 }
+
+module _ (n : ℕ) (role role' : Table) (count : ℕ) (old mid new : ℕ → Role) (kept : RecordedAt n role count old) where
   -- no node has the number of the next role
   unused : count_below (members role count) n ≡ 0
   unused = sum_below_none (λ k. cond (members role count k) 1 0) n (λ k l. let t = ne_eqb (role k) count (λ e. omega (arith, kept.ranged k l)) in rw t refl)
 
-  -- the next node joins role r
-  pub kept_joined :
-      (r : ℕ)
-      → n < 128
-      → r < count
-      → Takes role role' n r
-      → ((s : ℕ) → head' s ≡ head s)
-      → size' r ≡ size r + 1
-      → ((s : ℕ) → (s ≡ r → ⊥) → size' s ≡ size s)
-      → Kept (n + 1) role' count head' size'
-  kept_joined r room known takes heads grown rest =
-      let away : (y : ℕ) → y < n → role' y ≡ role y = λ y l. takes.off y (λ e. omega arith) in
-      record {
-        few = omega arith;
-        packed = omega (arith, kept.packed);
-        ranged = λ x l. elim (cases_eq x n) [
-          | inl e ↦ omega (arith, ap role' e, takes.here)
-          | inr ne ↦ omega (arith, takes.off x ne, kept.ranged x (omega arith))
-        ];
-        headed = λ s l.
-            let h = kept.headed s l in
-            (omega (arith, heads s), ap role' (heads s) ∙ away (head s) h.0 ∙ h.1);
-        lowest = λ s k l lt e.
-            let h = kept.headed s l in
-            let lt' : k < head s = omega (arith, heads s) in
-            kept.lowest s k l lt' (sym (away k (omega arith)) ∙ e);
-        sized = λ s l. elim (cases_eq s r) [
-          | inl e ↦ omega (arith, ap size' e, grown, kept.sized r known, next_in role role' n r takes, ap (λ t. count_below (members role' t) (n + 1)) e)
-          | inr ne ↦ omega (arith, rest s ne, kept.sized s l, next_out role role' n r takes s ne)
-        ];
-      }
-
-  -- the next node is a role of its own
-  pub kept_founded :
-      n < 128
-      → Takes role role' n count
-      → head' count ≡ n
-      → ((s : ℕ) → s < count → head' s ≡ head s)
-      → size' count ≡ 1
-      → ((s : ℕ) → s < count → size' s ≡ size s)
-      → Kept (n + 1) role' (count + 1) head' size'
-  kept_founded room takes at heads alone rest =
-      let away : (y : ℕ) → y < n → role' y ≡ role y = λ y l. takes.off y (λ e. omega arith) in
-      record {
-        few = omega arith;
-        packed = omega (arith, kept.packed);
-        ranged = λ x l. elim (cases_eq x n) [
-          | inl e ↦ omega (arith, ap role' e, takes.here)
-          | inr ne ↦ omega (arith, takes.off x ne, kept.ranged x (omega arith))
-        ];
-        headed = λ s l. elim (cases_lt s count) [
-          | inl old ↦
-              let h = kept.headed s old in
-              (omega (arith, heads s old), ap role' (heads s old) ∙ away (head s) h.0 ∙ h.1)
-          | inr new ↦
-              let e : s ≡ count = omega arith in
-              let h = ap head' e ∙ at in
-              (omega arith, ap role' h ∙ takes.here ∙ sym e)
-        ];
-        lowest = λ s k l lt e. elim (cases_lt s count) [
-          | inl old ↦
-              let h = kept.headed s old in
-              let lt' : k < head s = omega (arith, heads s old) in
-              kept.lowest s k old lt' (sym (away k (omega arith)) ∙ e)
-          | inr new ↦
-              let same : s ≡ count = omega arith in
-              let node : k < n = omega (arith, ap head' same) in
-              omega (arith, away k node, kept.ranged k node)
-        ];
-        sized = λ s l. elim (cases_lt s count) [
-          | inl old ↦ omega (arith, rest s old, kept.sized s old, next_out role role' n count takes s (λ e. omega arith))
-          | inr new ↦
-              let e : s ≡ count = omega arith in
-              omega (arith, ap size' e, alone, next_in role role' n count takes, ap (λ t. count_below (members role' t) (n + 1)) e, unused)
-        ];
-      }
-
-  -- node x, not the head of its role, takes role r
-  module _ (x r : ℕ) (node : x < n) (later : head (role x) < x) (other : role x ≡ r → ⊥) (takes : Takes role role' x r) where
-    -- a head keeps its role
-    still_head : (s : ℕ) → s < count → role' (head s) ≡ s
-    still_head s l =
-        let own = (kept.headed s l).1 in
-        takes.off (head s) (λ e. omega (arith, ap (λ t. head (role t)) e, ap head own)) ∙ own
+  -- node x, the head of no role, takes role r, and m nodes are there afterwards; mid has the right heads, and the right sizes but for r
+  module _
+      (x r m : ℕ)
+      (takes : Puts role role' x r)
+      (apart : (s : ℕ) → s < count → (old s).head ≡ x → ⊥)
+      (node : x < m)
+      (few : m ≤ 128)
+      (more : n ≤ m)
+      (rest : (y : ℕ) → y < m → (y ≡ x → ⊥) → y < n)
+      (heads : (s : ℕ) → (mid s).head ≡ (old s).head)
+      (sizes : (s : ℕ) → s < count → (s ≡ r → ⊥) → (mid s).size ≡ count_below (members role' s) m) where
+    still_head : (s : ℕ) → s < count → role' (old s).head ≡ s
+    still_head s l = takes.off (old s).head (apart s l) ∙ (kept.headed s l).1
 
     -- no node below the head has come to its role
-    still_lowest : (s k : ℕ) → s < count → k < head s → (s ≡ r → head r < x) → role' k ≡ s → ⊥
+    still_lowest : (s k : ℕ) → s < count → k < (old s).head → (s ≡ r → (old r).head < x) → role' k ≡ s → ⊥
     still_lowest s k l lt past e =
         elim (cases_eq k x) [
           | inl d ↦
               let same : s ≡ r = sym e ∙ ap role' d ∙ takes.here in
-              omega (arith, past same, ap head same)
+              omega (arith, past same, ap (λ t. (old t).head) same)
           | inr ne ↦ kept.lowest s k l lt (sym (takes.off k ne) ∙ e)
         ]
 
-    still_ranged : (limit : ℕ) → r < limit → count ≤ limit → Ranged n role' limit
-    still_ranged limit fits more y l =
+    still_ranged : (limit : ℕ) → r < limit → count ≤ limit → Ranged m role' limit
+    still_ranged limit fits wide y l =
         elim (cases_eq y x) [
           | inl e ↦ omega (arith, ap role' e, takes.here)
-          | inr ne ↦ omega (arith, takes.off y ne, kept.ranged y l)
+          | inr ne ↦ omega (arith, takes.off y ne, kept.ranged y (rest y l ne))
         ]
 
-    still_sized : (s : ℕ) → s < count → (s ≡ r → ⊥) → size' (role x) ≡ size (role x) - 1 → ((s ≡ role x → ⊥) → size' s ≡ size s) → size' s ≡ count_below (members role' s) n
-    still_sized s l ne shrunk rest =
-        elim (cases_eq s (role x)) [
-          | inl e ↦
-              let at : count_below (members role' s) n ≡ count_below (members role' (role x)) n = ap (λ t. count_below (members role' t) n) e in
-              omega (arith, ap size' e, kept.sized (role x) (kept.ranged x node), moved_out role role' x r takes n node other)
-          | inr past ↦ omega (arith, rest past, kept.sized s l, moved_past role role' x r takes n node other s ne past)
-        ]
-
-    pub kept_moved :
-        r < count
-        → head r < x
-        → ((s : ℕ) → head' s ≡ head s)
-        → size' (role x) ≡ size (role x) - 1
-        → size' r ≡ size r + 1
-        → ((s : ℕ) → (s ≡ role x → ⊥) → (s ≡ r → ⊥) → size' s ≡ size s)
-        → Kept n role' count head' size'
-    kept_moved known past heads shrunk grown rest =
+    -- r was a role
+    kept_known : r < count → (old r).head < x → (mid r).size + 1 ≡ count_below (members role' r) m → Puts mid new r (grown (mid r)) → RecordedAt m role' count new
+    kept_known known past one_more grows =
+        let heads' : (s : ℕ) → (new s).head ≡ (old s).head = λ s. same_head mid new r ((mid r).size + 1) grows s ∙ heads s in
         record {
-          few = kept.few;
-          packed = kept.packed;
+          few = few;
+          packed = omega (arith, kept.packed);
           ranged = still_ranged count known (omega arith);
-          headed = λ s l. (omega (arith, heads s, (kept.headed s l).0), ap role' (heads s) ∙ still_head s l);
-          lowest = λ s k l lt e. still_lowest s k l (omega (arith, heads s)) (λ _. past) e;
+          headed = λ s l. (omega (arith, heads' s, (kept.headed s l).0), ap role' (heads' s) ∙ still_head s l);
+          lowest = λ s k l lt e. still_lowest s k l (omega (arith, heads' s)) (λ _. past) e;
           sized = λ s l. elim (cases_eq s r) [
-            | inl e ↦
-                let at : count_below (members role' s) n ≡ count_below (members role' r) n = ap (λ t. count_below (members role' t) n) e in
-                omega (arith, ap size' e, kept.sized r known, moved_in role role' x r takes n node other)
-            | inr ne ↦ still_sized s l ne shrunk (λ past'. rest s past' ne)
+            | inl e ↦ omega (arith, ap (λ t. (new t).size) e, ap (λ v. v.size) grows.here, one_more, ap (λ t. count_below (members role' t) m) e)
+            | inr ne ↦ ap (λ v. v.size) (grows.off s ne) ∙ sizes s l ne
           ];
         }
 
-  -- node x, not the head of its role, becomes a role of its own
-  pub kept_opened :
-      (x : ℕ)
-      → x < n
-      → head (role x) < x
-      → Takes role role' x count
-      → count < n
-      → head' count ≡ x
-      → ((s : ℕ) → s < count → head' s ≡ head s)
-      → size' (role x) ≡ size (role x) - 1
-      → size' count ≡ 1
-      → ((s : ℕ) → s < count → (s ≡ role x → ⊥) → size' s ≡ size s)
-      → Kept n role' (count + 1) head' size'
-  kept_opened x node later takes room at heads shrunk alone rest =
-      let other : role x ≡ count → ⊥ = λ e. omega (arith, kept.ranged x node) in
-      record {
-        few = kept.few;
-        packed = omega arith;
-        ranged = still_ranged x count node later other takes (count + 1) (omega arith) (omega arith);
-        headed = λ s l. elim (cases_lt s count) [
-          | inl old ↦ (omega (arith, heads s old, (kept.headed s old).0), ap role' (heads s old) ∙ still_head x count node later other takes s old)
-          | inr new ↦
-              let e : s ≡ count = omega arith in
-              let h = ap head' e ∙ at in
-              (omega arith, ap role' h ∙ takes.here ∙ sym e)
-        ];
-        lowest = λ s k l lt e. elim (cases_lt s count) [
-          | inl old ↦ still_lowest x count node later other takes s k old (omega (arith, heads s old)) (λ d. absurd (omega arith)) e
-          | inr new ↦
-              let same : s ≡ count = omega arith in
-              let under : k < x = omega (arith, ap head' same) in
-              omega (arith, takes.off k (λ d. omega arith), kept.ranged k (omega arith))
-        ];
-        sized = λ s l. elim (cases_lt s count) [
-          | inl old ↦ still_sized x count node later other takes s old (λ d. omega arith) shrunk (rest s old)
-          | inr new ↦
-              let e : s ≡ count = omega arith in
-              let same : count_below (members role' s) n ≡ count_below (members role' count) n = ap (λ t. count_below (members role' t) n) e in
-              omega (arith, ap size' e, unused, moved_in role role' x count takes n node other)
-        ];
-      }
+    -- r is the next role
+    kept_fresh : r ≡ count → count < m → count_below (members role' r) m ≡ 1 → Puts mid new r (record { head = x; size = 1 }) → RecordedAt m role' (count + 1) new
+    kept_fresh fresh room alone opens =
+        let older : (s : ℕ) → s < count → new s ≡ mid s = λ s l. opens.off s (λ e. omega arith) in
+        let newer : (s : ℕ) → s < count + 1 → count ≤ s → s ≡ r = λ s l h. omega arith in
+        let heads' : (s : ℕ) → s < count → (new s).head ≡ (old s).head = λ s l. ap (λ v. v.head) (older s l) ∙ heads s in
+        let head_here : (s : ℕ) → s ≡ r → (new s).head ≡ x = λ s e. ap (λ t. (new t).head) e ∙ ap (λ v. v.head) opens.here in
+        record {
+          few = few;
+          packed = omega arith;
+          ranged = still_ranged (count + 1) (omega arith) (omega arith);
+          headed = λ s l. elim (cases_lt s count) [
+            | inl b ↦ (omega (arith, heads' s b, (kept.headed s b).0), ap role' (heads' s b) ∙ still_head s b)
+            | inr h ↦ let e = newer s l h in (omega (arith, head_here s e), ap role' (head_here s e) ∙ takes.here ∙ sym e)
+          ];
+          lowest = λ s k l lt e. elim (cases_lt s count) [
+            | inl b ↦ still_lowest s k b (omega (arith, heads' s b)) (λ d. absurd (omega arith)) e
+            | inr h ↦
+                let under : k < x = omega (arith, head_here s (newer s l h)) in
+                omega (arith, takes.off k (λ d. omega arith), kept.ranged k (rest k (omega arith) (λ d. omega arith)))
+          ];
+          sized = λ s l. elim (cases_lt s count) [
+            | inl b ↦ ap (λ v. v.size) (older s b) ∙ sizes s b (λ d. omega arith)
+            | inr h ↦
+                let e = newer s l h in
+                omega (arith, ap (λ t. (new t).size) e, ap (λ v. v.size) opens.here, alone, ap (λ t. count_below (members role' t) m) e)
+          ];
+        }
+
+module _ (n : ℕ) (role role' : Table) (count : ℕ) (old new : ℕ → Role) (kept : RecordedAt n role count old) where
+  -- the next node joins role r
+  pub kept_joined : (r : ℕ) → n < 128 → r < count → Puts role role' n r → Puts old new r (grown (old r)) → RecordedAt (n + 1) role' count new
+  kept_joined r room known takes grows =
+      kept_known n role role' count old old new kept n r (n + 1) takes
+      (λ s l e. omega (arith, (kept.headed s l).0)) (omega arith) (omega arith) (omega arith) (λ y l ne. omega arith) (λ s. refl)
+      (λ s l ne. kept.sized s l ∙ sym (next_out role role' n r takes s ne))
+      known (kept.headed r known).0 (omega (arith, kept.sized r known, next_in role role' n r takes)) grows
+
+  -- the next node is a role of its own
+  pub kept_founded : n < 128 → Puts role role' n count → Puts old new count (record { head = n; size = 1 }) → RecordedAt (n + 1) role' (count + 1) new
+  kept_founded room takes opens =
+      kept_fresh n role role' count old old new kept n count (n + 1) takes
+      (λ s l e. omega (arith, (kept.headed s l).0)) (omega arith) (omega arith) (omega arith) (λ y l ne. omega arith) (λ s. refl)
+      (λ s l ne. kept.sized s l ∙ sym (next_out role role' n count takes s ne))
+      refl (omega (arith, kept.packed)) (omega (arith, unused n role role' count old old new kept, next_in role role' n count takes)) opens
+
+  -- node x, not the head of its role, takes role r
+  module _ (x r : ℕ) (node : x < n) (later : (old (role x)).head < x) (other : role x ≡ r → ⊥) (takes : Puts role role' x r) (mid : ℕ → Role) (shrinks : Puts old mid (role x) (shrunk (old (role x)))) where
+    no_head : (s : ℕ) → s < count → (old s).head ≡ x → ⊥
+    no_head s l e = omega (arith, ap (λ t. (old (role t)).head) e, ap (λ t. (old t).head) (kept.headed s l).1)
+
+    mid_sized : (s : ℕ) → s < count → (s ≡ r → ⊥) → (mid s).size ≡ count_below (members role' s) n
+    mid_sized s l ne =
+        elim (cases_eq s (role x)) [
+          | inl e ↦
+              let at : count_below (members role' s) n ≡ count_below (members role' (role x)) n = ap (λ t. count_below (members role' t) n) e in
+              omega (arith, ap (λ t. (mid t).size) e, ap (λ v. v.size) shrinks.here, kept.sized (role x) (kept.ranged x node), moved_out role role' x r takes n node other)
+          | inr past ↦ omega (arith, ap (λ v. v.size) (shrinks.off s past), kept.sized s l, moved_past role role' x r takes n node other s ne past)
+        ]
+
+    mid_head : (s : ℕ) → (mid s).head ≡ (old s).head
+    mid_head = same_head old mid (role x) ((old (role x)).size - 1) shrinks
+
+    -- r was a role
+    pub kept_moved : r < count → (old r).head < x → Puts mid new r (grown (mid r)) → RecordedAt n role' count new
+    kept_moved known past grows =
+        kept_known n role role' count old mid new kept x r n takes no_head node kept.few (omega arith) (λ y l ne. l) mid_head mid_sized
+        known past (omega (arith, ap (λ v. v.size) (shrinks.off r (λ d. other (sym d))), kept.sized r known, moved_in role role' x r takes n node other)) grows
+
+    -- r is the next role
+    pub kept_opened : r ≡ count → count < n → Puts mid new r (record { head = x; size = 1 }) → RecordedAt n role' (count + 1) new
+    kept_opened fresh room opens =
+        let none = unused n role role' count old mid new kept in
+        kept_fresh n role role' count old mid new kept x r n takes no_head node kept.few (omega arith) (λ y l ne. l) mid_head mid_sized
+        fresh room (omega (arith, ap (λ t. count_below (members role t) n) fresh, none, moved_in role role' x r takes n node other)) opens

@@ -1,33 +1,26 @@
--- What one write into the two arrays does. Assumes nothing.
-use Rattle.std.proofs.Common.{◌≡◌, ◌≢◌, ℕ, ◌+◌, ◌<◌, List, length, set, sym, ap, ◌∙◌, inl, inr, get_or-set_same, get_or-set_other}
-use Rattle.std.proofs.lemmas.Bool.{cases_eq}
-use Rattle.equivalence.specs.Vetted.{table_of}
-use Rattle.session.specs.Roles.{record_at, head_at, size_at}
+-- What a push and a write do to a list, and so to the table. Assumes nothing.
+use Rattle.std.proofs.Common.{◌≡◌, ℕ, ◌<◌, List, [], ◌∷◌, ◌++◌, length, get_or, set, refl, ap, ◌∙◌, get_or-set_same, get_or-set_other, length-set, arith}
+use Rattle.std.proofs.lemmas.List.{places, get_or_push, length_push}
+use Rattle.arrayvec.specs.ArrayVec.{ArrayVec, with_items}
+use Rattle.arrayvec.proofs.ArrayVecLemmas.{items-with_items}
+use Rattle.session.specs.Roles.{record_at, Kept}
 use Rattle.session.specs.declared.role.Role.{Role}
-use Rattle.session.proofs.Records.{Takes}
+use Rattle.session.proofs.Records.{Puts, grown, kept_joined}
 
--- node x takes role r
-pub takes_written : (role_of : List ℕ) (x r : ℕ) → x < length role_of → Takes (table_of role_of) (table_of (set role_of x r)) x r
-takes_written role_of x r l =
-    record { here = get_or-set_same role_of x r 0 l; off = λ y ne. get_or-set_other role_of x y r 0 ne }
+module _ {V : Type 0} (xs : List V) (v d : V) where
+  puts_pushed : Puts (λ k. get_or xs k d) (λ k. get_or (xs ++ v ∷ []) k d) (length xs) v
+  puts_pushed = record { here = get_or_push xs v d (length xs) refl; off = λ y ne. grind (arith, places) }
 
--- the record of role r is one node larger
-module _ (roles : List Role) (r : ℕ) (grown : Role) (l : r < length roles) (is : grown ≡ record { head = head_at roles r; size = size_at roles r + 1 }) where
-  here : record_at (set roles r grown) r ≡ grown
-  here = get_or-set_same roles r grown _ l
+  puts_set : (i : ℕ) → i < length xs → Puts (λ k. get_or xs k d) (λ k. get_or (set xs i v) k d) i v
+  puts_set i l = record { here = get_or-set_same xs i v d l; off = λ y ne. get_or-set_other xs i y v d ne }
 
-  off : (s : ℕ) → s ≢ r → record_at (set roles r grown) s ≡ record_at roles s
-  off s ne = get_or-set_other roles r s grown _ ne
+-- a write at i, through the slice that shows the elements
+pub items-written : {V : Type 0} (v : ArrayVec V) (shown : List V) (i : ℕ) (x : V) → shown ≡ v.items → (with_items v (set shown i x)).items ≡ set v.items i x
+items-written v shown i x e = items-with_items v (set shown i x) (length-set shown i x ∙ ap length e) ∙ ap (λ ys. set ys i x) e
 
-  pub head_at_grown : (s : ℕ) → head_at (set roles r grown) s ≡ head_at roles s
-  head_at_grown s =
-      elim (cases_eq s r) [
-        | inl e ↦ ap (head_at (set roles r grown)) e ∙ ap (λ v. v.head) (here ∙ is) ∙ sym (ap (head_at roles) e)
-        | inr ne ↦ ap (λ v. v.head) (off s ne)
-      ]
-
-  pub size_at_grown : size_at (set roles r grown) r ≡ size_at roles r + 1
-  size_at_grown = ap (λ v. v.size) (here ∙ is)
-
-  pub size_at_grown_other : (s : ℕ) → s ≢ r → size_at (set roles r grown) s ≡ size_at roles s
-  size_at_grown_other s ne = ap (λ v. v.size) (off s ne)
+-- the next node joins role r
+pub joined : (role_of : List ℕ) (roles : List Role) (r : ℕ) → Kept role_of roles → length role_of < 128 → r < length roles → Kept (role_of ++ r ∷ []) (set roles r (grown (record_at roles r)))
+joined role_of roles r kept room known =
+    let after = grown (record_at roles r) in
+    rw (length_push role_of r, length-set roles r after)
+    (kept_joined (length role_of) _ _ _ (record_at roles) (record_at (set roles r after)) kept r room known (puts_pushed role_of r 0) (puts_set roles after _ r known))

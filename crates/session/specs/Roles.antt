@@ -7,10 +7,13 @@
 --   Headed       each role's head is one of its nodes, so no role is empty
 --   Lowest       no node below the head has the role
 --   Sized        each role's size is the number of its nodes
-use Rattle.std.specs.Prelude.{◌≡◌, ℕ, ◌<◌, List, ◌≢◌, slice_index_or}
+--   Recorded     all of it, with at most 128 nodes, and no more roles than nodes
+--   Kept         the same, of the roles of the nodes and the records of the roles
+use Rattle.std.specs.Prelude.{◌≡◌, ℕ, ◌<◌, ◌≤◌, List, ◌≢◌, length, slice_index_or}
 use Rattle.network.specs.Meaning.{count_below}
 use Rattle.equivalence.specs.Regular.{Table}
 use Rattle.equivalence.specs.Splitting.{members}
+use Rattle.equivalence.specs.Vetted.{table_of}
 use Rattle.session.specs.declared.role.Role.{Role}
 
 abbrev pub record_at : List Role → ℕ → Role
@@ -33,3 +36,14 @@ Lowest role count head = (r k : ℕ) → r < count → k < head r → role k ≢
 
 abbrev pub Sized : ℕ → Table → ℕ → (ℕ → ℕ) → Type 0
 Sized nodes role count size = (r : ℕ) → r < count → size r ≡ count_below (members role r) nodes
+
+pub record Recorded (nodes : ℕ) (role : Table) (count : ℕ) (head size : ℕ → ℕ) : Type 0 where
+  pub few : nodes ≤ 128
+  pub packed : count ≤ nodes
+  pub ranged : Ranged nodes role count
+  pub headed : Headed nodes role count head
+  pub lowest : Lowest role count head
+  pub sized : Sized nodes role count size
+
+abbrev pub Kept : List ℕ → List Role → Type 0
+Kept role_of roles = Recorded (length role_of) (table_of role_of) (length roles) (head_at roles) (size_at roles)

@@ -1,31 +1,22 @@
-use Rattle.std.proofs.Common.{◌<◌, length, arith}
+use Rattle.std.proofs.Common.{List, length, arith, ap}
 use Rattle.network.proofs.Counting.{count_below_le}
 use Rattle.equivalence.specs.Vetted.{table_of}
 use Rattle.equivalence.specs.Splitting.{members}
-use Rattle.session.specs.Roles.{head_at, size_at}
-use Rattle.session.proofs.Records.{Kept, kept_joined}
-use Rattle.session.proofs.Writes.{takes_written, head_at_grown, size_at_grown, size_at_grown_other}
+use Rattle.session.specs.Roles.{size_at}
+use Rattle.session.specs.declared.role.Role.{Role}
+use Rattle.session.proofs.Writes.{items-written, joined}
 use Rattle.session.proofs.table.Table.join.Goals as goal
 
+-- a role has no more nodes than there are
 pub grow-requires : goal.grow-requires
 grow-requires c =
     let m = c.args.self.now in
-    omega (arith, m.sized c.args.r c.requires.known, count_below_le (members (table_of m.role_of) c.args.r) m.nodes, m.few, m.packed)
+    let r = c.args.r in
+    omega (arith, ap (λ (xs : List Role). size_at xs r) c.deref_mut.ensures.value, m.kept.sized r c.requires.known, count_below_le (members (table_of m.role_of.items) r) (length m.role_of.items))
 
 pub invariant_of-self : goal.invariant_of-self
 invariant_of-self c =
     let m = c.args.self.now in
     let r = c.args.r in
-    let grown = c.grow.new.self in
-    let node : m.nodes < length m.role_of = omega arith in
-    let known : r < length m.roles = omega (arith, m.few, m.packed) in
-    let before : Kept m.nodes (table_of m.role_of) m.count (head_at m.roles) (size_at m.roles) =
-    record { few = m.few; packed = m.packed; ranged = m.ranged; headed = m.headed; lowest = m.lowest; sized = m.sized }
-    in
-    let after = kept_joined m.nodes _ _ m.count _ _ _ _ before r c.requires.room c.requires.known
-    (takes_written m.role_of m.nodes r node)
-    (head_at_grown m.roles r grown known c.grow.ensures)
-    (size_at_grown m.roles r grown known c.grow.ensures)
-    (size_at_grown_other m.roles r grown known c.grow.ensures)
-    in
-    record { few = after.few; packed = after.packed; ranged = after.ranged; headed = after.headed; lowest = after.lowest; sized = after.sized }
+    let lent = c.deref_mut.ensures.value in
+    record { kept = rw (c.push.ensures.items, items-written m.roles c.deref_mut.result.now r c.grow.new.self lent, c.grow.ensures, lent) (joined m.role_of.items m.roles.items r m.kept c.requires.room c.requires.known) }
