@@ -1,14 +1,15 @@
 // The refusals of the vet.
-ghost use Rattle.std.specs.Prelude.{◌≡◌};
-ghost use Rattle.equivalence.specs.Faults.{number, layer};
+ghost use Rattle.std.specs.Prelude.{◌≡◌, Some};
+ghost use Rattle.equivalence.specs.Faults.{number, layer, said};
 
 use network::faults::Layer;
-use thiserror::Error;
+use std::error::Error;
+use std::fmt;
 
 // Why the vet refuses, with its number.
-#[derive(Clone, Copy, PartialEq, Eq, Debug, Error)]
+#[derive(Clone, Copy, PartialEq, Eq, Debug)]
 pub enum Fault {
-    #[error("the table has not one byte for each node")]
+    // The table has not one byte for each node.
     Length = 10,
 }
 
@@ -26,3 +27,15 @@ impl Fault {
         Layer::Vet
     }
 }
+
+impl fmt::Display for Fault {
+    ghost output = { λ f. Some (said f) };
+
+    fn fmt<W: fmt::Write>(&self, f: &mut fmt::Formatter<W>) -> fmt::Result {
+        match self {
+            Fault::Length => f.write_str("not one byte for each node"),
+        }
+    }
+}
+
+impl Error for Fault {}

@@ -1,8 +1,9 @@
 // The refusals of a network, with their numbers and layer.
-ghost use Rattle.std.specs.Prelude.{◌≡◌};
-ghost use Rattle.network.specs.Faults.{number, layer};
+ghost use Rattle.std.specs.Prelude.{◌≡◌, Some};
+ghost use Rattle.network.specs.Faults.{number, layer, said};
 
-use thiserror::Error;
+use std::error::Error;
+use std::fmt;
 
 // The part of the engine that refuses.
 #[derive(Clone, Copy, PartialEq, Eq, Debug)]
@@ -12,17 +13,17 @@ pub enum Layer {
 }
 
 // Why a network refuses.
-#[derive(Clone, Copy, PartialEq, Eq, Debug, Error)]
+#[derive(Clone, Copy, PartialEq, Eq, Debug)]
 pub enum Fault {
-    #[error("there are not 1 to 128 nodes, or a side has none")]
+    // There are not 1 to 128 nodes, or a side has none.
     Size = 1,
-    #[error("the memory handed to the making is too short")]
+    // The memory handed to the making is too short.
     Memory = 2,
-    #[error("a node that is named is not below the number of nodes")]
+    // A node that is named is not below the number of nodes.
     Node = 3,
-    #[error("the pair is not allowed")]
+    // The pair is not allowed.
     Pair = 4,
-    #[error("the byte is not 0, the pair is untied, and as many pairs are tied as the cap allows")]
+    // The byte is not 0, the pair is untied, and as many pairs are tied as the cap allows.
     Full = 5,
 }
 
@@ -39,3 +40,19 @@ impl Fault {
         Layer::Network
     }
 }
+
+impl fmt::Display for Fault {
+    ghost output = { λ f. Some (said f) };
+
+    fn fmt<W: fmt::Write>(&self, f: &mut fmt::Formatter<W>) -> fmt::Result {
+        f.write_str(match self {
+            Fault::Size => "not 1 to 128 nodes, or a side without nodes",
+            Fault::Memory => "too little memory",
+            Fault::Node => "no such node",
+            Fault::Pair => "a pair that is not allowed",
+            Fault::Full => "as many tied pairs as the cap allows",
+        })
+    }
+}
+
+impl Error for Fault {}
