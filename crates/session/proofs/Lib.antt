@@ -1,2 +1,4 @@
 pub mod Records
 pub mod Writes
+pub mod Searches
+pub mod Starts

@@ -1,40 +1,52 @@
 // The table of roles.
-ghost use Rattle.std.specs.Prelude.{◌≡◌, ◌+◌, ◌<◌, [], ◌∷◌, ◌++◌};
+ghost use Rattle.std.specs.Prelude.{◌≡◌, ◌<◌, length};
 ghost use Rattle.arrayvec.specs.ArrayVec.{array_vec_len};
-ghost use Rattle.session.specs.Roles.{Kept};
+ghost use Rattle.equivalence.specs.Vetted.{table_of};
+ghost use Rattle.equivalence.specs.Coarsest.{roles as number_of_roles};
+ghost use Rattle.session.specs.Roles.{Kept, record_at};
 
 use super::role::Role;
 use arrayvec::ArrayVec;
+
+// From nodes and their colours to the starting classes.
+mod starting;
+// One role in two.
+mod splitting;
 
 // role_of[x] is the role of node x; roles[r] has the lowest node of role r and its size.
 #[derive(Drop)]
 pub(crate) struct Table {
     role_of: ArrayVec<u8, 128>,
     roles: ArrayVec<Role, 128>,
+    // How many roles were split since the starting classes.
+    splits: usize,
     ghost kept: { Kept role_of.items roles.items },
 }
 
 impl Table {
-    // No nodes and no roles.
-    pub(crate) fn empty() -> Table
-        ensures nodes { result.role_of.items ≡ [] }
-        ensures roles { result.roles.items ≡ [] }
+    pub(crate) fn nodes(&self) -> usize
+        ensures { result ≡ length self.now.role_of.items }
     {
-        Table {
-            role_of: ArrayVec::new(),
-            roles: ArrayVec::new(),
-        }
+        self.role_of.len()
     }
 
-    // The next node joins role r.
-    pub(crate) fn join(&mut self, r: usize)
-        requires room { array_vec_len self.old.role_of < 128 }
-        requires known { r < array_vec_len self.old.roles }
-        ensures table { self.new.role_of.items ≡ self.old.role_of.items ++ r ∷ [] }
-        ensures nodes { array_vec_len self.new.role_of ≡ array_vec_len self.old.role_of + 1 }
-        ensures count { array_vec_len self.new.roles ≡ array_vec_len self.old.roles }
+    pub(crate) fn splits(&self) -> usize
+        ensures { result ≡ self.now.splits }
     {
-        self.role_of.push(r as u8);
-        self.roles[r].grow();
+        self.splits
+    }
+
+    pub(crate) fn role_of(&self, x: usize) -> usize
+        requires { x < length self.now.role_of.items }
+        ensures { result ≡ table_of self.now.role_of.items x }
+    {
+        usize::from(self.role_of[x])
+    }
+
+    pub(crate) fn role(&self, r: usize) -> Role
+        requires { r < array_vec_len self.now.roles }
+        ensures { result ≡ record_at self.now.roles.items r }
+    {
+        self.roles[r]
     }
 }

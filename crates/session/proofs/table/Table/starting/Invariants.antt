@@ -1,0 +1,8 @@
+use Rattle.std.proofs.Common.{◌≡◌, length}
+use Rattle.equivalence.specs.Vetted.{table_of}
+use Rattle.session.specs.Sessions.{Starting}
+use Rattle.session.proofs.table.Table.starting.Given as goal
+
+-- the nodes so far are at their starting classes
+abbrev pub invariant-loop-x : goal.invariant-loop-x
+invariant-loop-x l = (length l.table.role_of.items ≡ l.x) × Starting l.x (table_of l.colours) (table_of l.table.role_of.items) × (l.table.splits ≡ 0)

@@ -1,0 +1,73 @@
+// The starting classes: nodes of equal colour are together.
+ghost use Rattle.std.specs.Prelude.{◌≡◌, ◌≢◌, ℕ, ◌+◌, ◌<◌, ◌≤◌, [], ◌∷◌, ◌++◌, length, MatchOption};
+ghost use Rattle.arrayvec.specs.ArrayVec.{array_vec_len};
+ghost use Rattle.equivalence.specs.Vetted.{table_of};
+ghost use Rattle.session.specs.Roles.{head_at};
+ghost use Rattle.session.specs.Sessions.{Starting};
+
+use super::super::role::Role;
+use super::Table;
+use arrayvec::ArrayVec;
+
+impl Table {
+    // No nodes and no roles.
+    fn empty() -> Table
+        ensures nodes { result.role_of.items ≡ [] }
+        ensures roles { result.roles.items ≡ [] }
+        ensures splits { result.splits ≡ 0 }
+    {
+        Table {
+            role_of: ArrayVec::new(),
+            roles: ArrayVec::new(),
+            splits: 0,
+        }
+    }
+
+    // The next node joins role r.
+    fn join(&mut self, r: usize)
+        requires room { array_vec_len self.old.role_of < 128 }
+        requires known { r < array_vec_len self.old.roles }
+        ensures table { self.new.role_of.items ≡ self.old.role_of.items ++ r ∷ [] }
+        ensures splits { self.new.splits ≡ self.old.splits }
+    {
+        self.role_of.push(r as u8);
+        self.roles[r].grow();
+    }
+
+    // The next node is a role of its own.
+    fn found(&mut self)
+        requires room { array_vec_len self.old.role_of < 128 }
+        ensures table { self.new.role_of.items ≡ self.old.role_of.items ++ array_vec_len self.old.roles ∷ [] }
+        ensures splits { self.new.splits ≡ self.old.splits }
+    {
+        let head = self.role_of.len();
+        self.role_of.push(self.roles.len() as u8);
+        self.roles.push(Role { head, size: 1 });
+    }
+
+    // The role whose head has this colour.
+    fn class(&self, colours: &[u8; 128], colour: u8) -> Option<usize>
+        ensures { MatchOption result
+            ((r : ℕ) → r < array_vec_len self.now.roles → table_of colours.now (head_at self.now.roles.items r) ≢ colour)
+            (λ r. (r < array_vec_len self.now.roles) × (table_of colours.now (head_at self.now.roles.items r) ≡ colour)) }
+    {
+        (0..self.roles.len()).find(|&r| colours[self.roles[r].head] == colour)
+    }
+
+    // The table of n nodes in which those of equal colour are together.
+    pub(crate) fn starting(n: usize, colours: &[u8; 128]) -> Table
+        requires { n ≤ 128 }
+        ensures nodes { length result.role_of.items ≡ n }
+        ensures start { Starting n (table_of colours.now) (table_of result.role_of.items) }
+        ensures splits { result.splits ≡ 0 }
+    {
+        let mut table = Table::empty();
+        for x in 0..n {
+            match table.class(colours, colours[x]) {
+                Some(r) => table.join(r),
+                None => table.found(),
+            }
+        }
+        table
+    }
+}
