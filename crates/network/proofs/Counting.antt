@@ -59,6 +59,10 @@ one false = omega arith
 pub count_below_le : (p : ℕ → Bool) (n : ℕ) → count_below p n ≤ n
 count_below_le p n = omega (arith, sum_below_le (λ k. cond (p k) 1 0) 1 n (λ k _. one (p k)))
 
+pub count_below_all : (n : ℕ) → count_below (λ _. true) n ≡ n
+count_below_all zero = refl
+count_below_all (suc n) = omega (arith, count_below_all n)
+
 pub count_below_lt : (p : ℕ → Bool) (n i : ℕ) → i < n → p i ≡ false → count_below p n < n
 count_below_lt p n i l e =
     let none : cond (p i) 1 0 < 1 = rw e (omega arith) in
@@ -99,11 +103,9 @@ count_below_inject p q (suc n) m f goes apart =
       | inl here ↦
           let to = goes n (omega arith) here in
           let rest : ℕ → Bool = λ k. q k && not (eqb k (f n)) in
-          let fewer =
-          count_below_inject p rest n m f (λ k l t.
-          let on = goes k (omega arith) t in
-          let off : f k ≡ f n → ⊥ = λ e. omega (arith, apart k n (omega arith) (omega arith) t here e) in
-          (on.0, grind (arith, nat_tests))) apart' in
+          let off : (k : ℕ) → k < n → p k ≡ true → f k ≡ f n → ⊥ = λ k l t e. omega (arith, apart k n (omega arith) (omega arith) t here e) in
+          let still : (k : ℕ) → k < n → p k ≡ true → (f k < m) × (rest (f k) ≡ true) = λ k l t. grind (arith, nat_tests, off k l t, goes k (omega arith) t) in
+          let fewer = count_below_inject p rest n m f still apart' in
           let more = count_below_more rest q m (f n) to.0 (grind (arith, nat_tests)) to.1 (λ k ne. grind (arith, nat_tests)) in
           omega (arith, fewer, more, same_one (p n) true here)
       | inr none ↦
