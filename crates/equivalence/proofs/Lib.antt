@@ -1,4 +1,5 @@
 pub mod Gathering
+pub mod Firsts
 pub mod Balance
 pub mod Verdicts
 pub mod SetTotals

@@ -1,6 +1,7 @@
 -- Laws and bounds of sums and counts over the numbers below n. Assumes nothing.
-use Rattle.std.proofs.Common.{◌≡◌, ℕ, zero, suc, ◌+◌, ◌-◌, ◌*◌, ◌<◌, ◌≤◌, Bool, true, false, cond, sym, refl, ap, ◌∙◌, inl, inr, add-zero, add-suc, suc-mul, arith}
-use Rattle.std.proofs.lemmas.Bool.{cases_lt}
+use Rattle.std.proofs.Common.{◌≡◌, ℕ, zero, suc, ◌+◌, ◌-◌, ◌*◌, ◌<◌, ◌≤◌, Bool, true, false, cond, not, ◌&&◌, eqb, sym, refl, ap, ◌∙◌, inl, inr, add-zero, add-suc, suc-mul, arith}
+use Rattle.std.proofs.lemmas.Bool.{cases_Bool, cases_lt}
+use Rattle.std.proofs.lemmas.Bool.Decides.{nat_tests}
 use Rattle.network.specs.Meaning.{sum_below, count_below}
 
 pub sum_below_none : (f : ℕ → ℕ) (n : ℕ) → ((k : ℕ) → k < n → f k ≡ 0) → sum_below f n ≡ 0
@@ -58,6 +59,10 @@ one false = omega arith
 pub count_below_le : (p : ℕ → Bool) (n : ℕ) → count_below p n ≤ n
 count_below_le p n = omega (arith, sum_below_le (λ k. cond (p k) 1 0) 1 n (λ k _. one (p k)))
 
+pub count_below_all : (n : ℕ) → count_below (λ _. true) n ≡ n
+count_below_all zero = refl
+count_below_all (suc n) = omega (arith, count_below_all n)
+
 pub count_below_lt : (p : ℕ → Bool) (n i : ℕ) → i < n → p i ≡ false → count_below p n < n
 count_below_lt p n i l e =
     let none : cond (p i) 1 0 < 1 = rw e (omega arith) in
@@ -83,4 +88,26 @@ count_below_more p q (suc n) x l out within h =
           let none = same_one (p n) false (ap p (sym e) ∙ out) in
           let gain = same_one (q n) true (ap q (sym e) ∙ within) in
           omega (arith, count_below_same p q n (λ k l. h k (λ d. omega arith)), none, gain)
+    ]
+
+-- the numbers that pass p go to numbers that pass q, no two to one
+pub count_below_inject :
+    (p q : ℕ → Bool) (n m : ℕ) (f : ℕ → ℕ)
+    → ((k : ℕ) → k < n → p k ≡ true → (f k < m) × (q (f k) ≡ true))
+    → ((j k : ℕ) → j < n → k < n → p j ≡ true → p k ≡ true → f j ≡ f k → j ≡ k)
+    → count_below p n ≤ count_below q m
+count_below_inject p q zero m f goes apart = omega arith
+count_below_inject p q (suc n) m f goes apart =
+    let apart' = λ (j k : ℕ) (lj : j < n) (lk : k < n). apart j k (omega arith) (omega arith) in
+    elim (cases_Bool (p n)) [
+      | inl here ↦
+          let to = goes n (omega arith) here in
+          let rest : ℕ → Bool = λ k. q k && not (eqb k (f n)) in
+          let off : (k : ℕ) → k < n → p k ≡ true → f k ≡ f n → ⊥ = λ k l t e. omega (arith, apart k n (omega arith) (omega arith) t here e) in
+          let still : (k : ℕ) → k < n → p k ≡ true → (f k < m) × (rest (f k) ≡ true) = λ k l t. grind (arith, nat_tests, off k l t, goes k (omega arith) t) in
+          let fewer = count_below_inject p rest n m f still apart' in
+          let more = count_below_more rest q m (f n) to.0 (grind (arith, nat_tests)) to.1 (λ k ne. grind (arith, nat_tests)) in
+          omega (arith, fewer, more, same_one (p n) true here)
+      | inr none ↦
+          omega (arith, count_below_inject p q n m f (λ k l. goes k (omega arith)) apart', same_one (p n) false none)
     ]
