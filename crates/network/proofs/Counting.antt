@@ -111,3 +111,7 @@ count_below_inject p q (suc n) m f goes apart =
       | inr none ↦
           omega (arith, count_below_inject p q n m f (λ k l. goes k (omega arith)) apart', same_one (p n) false none)
     ]
+
+-- one that passes is counted
+pub count_below_pos : (p : ℕ → Bool) (n i : ℕ) → i < n → p i ≡ true → 0 < count_below p n
+count_below_pos p n i l e = omega (arith, count_below_inject (λ _. true) p 1 n (λ _. i) (λ _ _ _. (l, e)) (λ j k hj hk _ _ _. omega arith))

@@ -12,6 +12,10 @@ use Rattle.session.specs.Roles.{Ranged, Headed, Lowest}
 pub head_le : (role : Table) (count : ℕ) (head : ℕ → ℕ) → Lowest role count head → (r k : ℕ) → r < count → role k ≡ r → head r ≤ k
 head_le role count head lowest r k l e = let above : k < head r → ⊥ = λ below. lowest r k l below e in omega arith
 
+-- a node above the head of its role is no head
+pub no_head : (nodes : ℕ) (role : Table) (count : ℕ) (head : ℕ → ℕ) → Headed nodes role count head → (x : ℕ) → head (role x) < x → (r : ℕ) → r < count → head r ≢ x
+no_head nodes role count head headed x later r l e = omega (arith, ap (λ t. head (role t)) e, ap head (headed r l).1)
+
 abbrev any : ℕ → Bool
 any _ = true
 

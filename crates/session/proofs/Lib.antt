@@ -1,5 +1,5 @@
-pub mod Records
 pub mod Counted
+pub mod Records
 pub mod Writes
 pub mod Searches
 pub mod Starts

@@ -7,6 +7,7 @@ use Rattle.equivalence.specs.Regular.{Table}
 use Rattle.equivalence.specs.Splitting.{members}
 use Rattle.session.specs.Roles.{Ranged, Recorded}
 use Rattle.session.specs.declared.role.Role.{Role}
+use Rattle.session.proofs.Counted.{no_head}
 
 -- new is old with v at x
 pub record Puts {V : Type 0} (old new : ℕ → V) (x : ℕ) (v : V) : Type 0 where
@@ -164,8 +165,8 @@ module _ (n : ℕ) (role role' : Table) (count : ℕ) (old new : ℕ → Role) (
 
   -- node x, not the head of its role, takes role r
   module _ (x r : ℕ) (node : x < n) (later : (old (role x)).head < x) (other : role x ≡ r → ⊥) (takes : Puts role role' x r) (mid : ℕ → Role) (shrinks : Puts old mid (role x) (shrunk (old (role x)))) where
-    no_head : (s : ℕ) → s < count → (old s).head ≡ x → ⊥
-    no_head s l e = omega (arith, ap (λ t. (old (role t)).head) e, ap (λ t. (old t).head) (kept.headed s l).1)
+    apart_here : (s : ℕ) → s < count → (old s).head ≡ x → ⊥
+    apart_here = no_head n role count (λ s. (old s).head) kept.headed x later
 
     mid_sized : (s : ℕ) → s < count → (s ≡ r → ⊥) → (mid s).size ≡ count_below (members role' s) n
     mid_sized s l ne =
@@ -182,12 +183,12 @@ module _ (n : ℕ) (role role' : Table) (count : ℕ) (old new : ℕ → Role) (
     -- r was a role
     pub kept_moved : r < count → (old r).head < x → Puts mid new r (grown (mid r)) → RecordedAt n role' count new
     kept_moved known past grows =
-        kept_known n role role' count old mid new kept x r n takes no_head node kept.few (omega arith) (λ y l ne. l) mid_head mid_sized
+        kept_known n role role' count old mid new kept x r n takes apart_here node kept.few (omega arith) (λ y l ne. l) mid_head mid_sized
         known past (omega (arith, ap (λ v. v.size) (shrinks.off r (λ d. other (sym d))), kept.sized r known, moved_in role role' x r takes n node other)) grows
 
     -- r is the next role
     pub kept_opened : r ≡ count → count < n → Puts mid new r (record { head = x; size = 1 }) → RecordedAt n role' (count + 1) new
     kept_opened fresh room opens =
         let none = unused n role role' count old mid new kept in
-        kept_fresh n role role' count old mid new kept x r n takes no_head node kept.few (omega arith) (λ y l ne. l) mid_head mid_sized
+        kept_fresh n role role' count old mid new kept x r n takes apart_here node kept.few (omega arith) (λ y l ne. l) mid_head mid_sized
         fresh room (omega (arith, ap (λ t. count_below (members role t) n) fresh, none, moved_in role role' x r takes n node other)) opens

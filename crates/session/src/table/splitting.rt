@@ -17,9 +17,10 @@ impl Table {
         ensures splits { self.new.splits ≡ self.old.splits }
     {
         let part = usize::from(self.role_of[x]);
+        let next = self.roles.len();
         self.roles[part].shrink();
-        self.role_of[x] = self.roles.len() as u8;
         self.roles.push(Role { head: x, size: 1 });
+        self.role_of[x] = next as u8;
     }
 
     // Node x, above the head of its role, leaves it for role r.
