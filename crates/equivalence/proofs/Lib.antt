@@ -1,5 +1,6 @@
 pub mod Gathering
 pub mod Firsts
+pub mod Unions
 pub mod Balance
 pub mod Verdicts
 pub mod SetTotals
