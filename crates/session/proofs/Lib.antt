@@ -3,3 +3,4 @@ pub mod Records
 pub mod Writes
 pub mod Searches
 pub mod Starts
+pub mod Parts

@@ -1,5 +1,5 @@
 -- What a push and a write do to a list, and so to the table. Assumes nothing.
-use Rattle.std.proofs.Common.{◌≡◌, ℕ, ◌+◌, ◌<◌, ◌≤◌, List, [], ◌∷◌, ◌++◌, length, get_or, set, sym, refl, ap, ◌∙◌, get_or-set_same, get_or-set_other, length-set, arith}
+use Rattle.std.proofs.Common.{◌≡◌, ℕ, ◌<◌, ◌≤◌, List, [], ◌∷◌, ◌++◌, length, get_or, set, sym, refl, ap, ◌∙◌, get_or-set_same, get_or-set_other, length-set, arith}
 use Rattle.std.proofs.lemmas.List.{places, get_or_push, length_push}
 use Rattle.std.proofs.lemmas.Bool.{eq-eqb}
 use Rattle.network.proofs.Counting.{count_below_le, count_below_pos}

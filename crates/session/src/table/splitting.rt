@@ -1,8 +1,9 @@
 // One role in two.
-ghost use Rattle.std.specs.Prelude.{◌≡◌, ◌≢◌, ℕ, ◌+◌, ◌<◌, length, slice_set, MatchOption, false, true, slice_index_or};
+ghost use Rattle.std.specs.Prelude.{◌≡◌, ◌≢◌, ℕ, ◌+◌, ◌<◌, length, slice_set, false, true};
 ghost use Rattle.arrayvec.specs.ArrayVec.{array_vec_len};
 ghost use Rattle.equivalence.specs.Vetted.{table_of};
 ghost use Rattle.session.specs.Roles.{head_at};
+ghost use Rattle.session.specs.Sessions.{flag, parted};
 
 use super::super::role::Role;
 use super::Table;
@@ -38,5 +39,28 @@ impl Table {
         self.roles[part].shrink();
         self.roles[r].grow();
         self.role_of[x] = r as u8;
+    }
+
+    // Node x, the lowest that leaves, opens the next role, and the others of its role that leave follow it there.
+    pub(crate) fn split(&mut self, x: usize, leaves: &[bool; 128])
+        requires node { x < length self.old.role_of.items }
+        requires later { head_at self.old.roles.items (table_of self.old.role_of.items x) < x }
+        requires leaves { flag leaves.now x ≡ true }
+        requires lowest { (k : ℕ) → k < x → flag leaves.now k ≡ false }
+        requires few { self.old.splits < 128 }
+        ensures nodes { length self.new.role_of.items ≡ length self.old.role_of.items }
+        ensures table { (k : ℕ) → k < length self.old.role_of.items → table_of self.new.role_of.items k ≡ parted (table_of self.old.role_of.items) (table_of self.old.role_of.items x) (flag leaves.now) (array_vec_len self.old.roles) k }
+        ensures count { array_vec_len self.new.roles ≡ array_vec_len self.old.roles + 1 }
+        ensures splits { self.new.splits ≡ self.old.splits + 1 }
+    {
+        let part = self.role_of[x];
+        let next = self.roles.len();
+        self.open(x);
+        for y in x + 1..self.role_of.len() {
+            if leaves[y] && self.role_of[y] == part {
+                self.follow(y, next);
+            }
+        }
+        self.splits += 1;
     }
 }

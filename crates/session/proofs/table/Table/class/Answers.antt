@@ -1,4 +1,4 @@
-use Rattle.std.proofs.Common.{rules, tests, ◌≡◌, ◌≢◌, ℕ, ◌<◌}
+use Rattle.std.proofs.Common.{rules, tests, ◌≡◌, ℕ}
 use Rattle.std.proofs.lemmas.Iterator.{first_from_Range}
 use Rattle.session.specs.Roles.{head_at}
 use Rattle.equivalence.specs.Vetted.{table_of}

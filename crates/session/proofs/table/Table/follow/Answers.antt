@@ -1,8 +1,6 @@
-use Rattle.std.proofs.Common.{◌≡◌, ◌∙◌, ℕ, List, get_or, set, length, arith, ap}
+use Rattle.std.proofs.Common.{◌≡◌, ◌∙◌, ℕ, List, get_or, set, arith, ap}
 use Rattle.arrayvec.specs.ArrayVec.{with_items}
 use Rattle.equivalence.specs.Vetted.{table_of}
-use Rattle.session.specs.Roles.{size_at}
-use Rattle.session.specs.declared.role.Role.{Role}
 use Rattle.session.proofs.Records.{shrunk, grown}
 use Rattle.session.proofs.Writes.{items-written, record-written, part_pos, size_le, left_same, followed}
 use Rattle.session.proofs.table.Table.follow.Goals as goal

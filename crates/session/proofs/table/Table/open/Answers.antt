@@ -1,7 +1,6 @@
-use Rattle.std.proofs.Common.{◌≡◌, ◌∙◌, ℕ, List, get_or, set, length, length-set, lit<, arith, ap}
+use Rattle.std.proofs.Common.{◌≡◌, ◌∙◌, ℕ, List, get_or, length, length-set, lit<, arith, ap}
 use Rattle.equivalence.specs.Vetted.{table_of}
-use Rattle.session.specs.Roles.{size_at, record_at}
-use Rattle.session.specs.declared.role.Role.{Role}
+use Rattle.session.specs.Roles.{record_at}
 use Rattle.session.proofs.Records.{shrunk}
 use Rattle.session.proofs.Writes.{items-written, record-written, part_pos, opened, room}
 use Rattle.session.proofs.table.Table.open.Goals as goal

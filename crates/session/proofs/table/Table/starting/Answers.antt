@@ -1,4 +1,4 @@
-use Rattle.std.proofs.Common.{◌≡◌, ◌+◌, ◌∙◌, sym, ap, length}
+use Rattle.std.proofs.Common.{◌+◌, ◌∙◌, sym, ap, length}
 use Rattle.std.proofs.lemmas.List.{length_push}
 use Rattle.equivalence.specs.Vetted.{table_of}
 use Rattle.session.specs.Sessions.{Starting}
