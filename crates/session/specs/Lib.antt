@@ -1,2 +1,3 @@
 pub mod Roles
 pub mod Sessions
+pub mod Tables
