@@ -2,6 +2,7 @@ pub mod Gathering
 pub mod Firsts
 pub mod Unions
 pub mod Refinement
+pub mod Parting
 pub mod Balance
 pub mod Verdicts
 pub mod SetTotals
