@@ -1,5 +1,5 @@
 -- What a total is made of. Assumes nothing.
-use Rattle.std.proofs.Common.{◌≡◌, ℕ, zero, suc, ◌+◌, ◌<◌, Bool, true, false, cond, List, ◌∷◌, map, filter, sym, refl, ap, ◌∙◌, ap₂, add-one, arith}
+use Rattle.std.proofs.Common.{◌≡◌, ℕ, zero, suc, ◌+◌, ◌<◌, Bool, true, false, cond, List, ◌∷◌, map, filter, sym, refl, ap, ◌∙◌, ap₂, arith}
 use Rattle.std.specs.List.{fold, range_with_len}
 use Rattle.network.specs.Meaning.{Meaning}
 use Rattle.measure.specs.Measures.{Operations, Laws}
@@ -24,10 +24,6 @@ module _ {V : Type 0} (o : Operations V) where
 
     abbrev chosen : ℕ → V
     chosen k = cond (p k) (f k) o.none
-
-    pub gather_more : (n : ℕ) (b : Bool) → p n ≡ b → gather o chosen (n + 1) ≡ cond b (o.join (gather o chosen n) (f n)) (gather o chosen n)
-    gather_more n true e = rw add-one (ap (λ t. o.join (gather o chosen n) (cond t (f n) o.none)) e)
-    gather_more n false e = rw add-one (ap (λ t. o.join (gather o chosen n) (cond t (f n) o.none)) e ∙ laws.neutral _)
 
     gather_from : (a n : ℕ) → fold o.join (gather o chosen a) (map f (filter p (range_with_len a n))) ≡ gather o chosen (a + n)
     gather_from a zero = ap (gather o chosen) (omega arith)

@@ -1,3 +1,4 @@
 pub mod Roles
 pub mod Sessions
 pub mod Tables
+pub mod Faults

@@ -1,5 +1,6 @@
 // The refusals of a session, with their numbers and layer.
 ghost use Rattle.std.specs.Prelude.{◌≡◌, Some};
+ghost use Rattle.network.specs.declared.faults.Layer.{Layer};
 ghost use Rattle.session.specs.Faults.{number, said};
 
 use network::faults::Layer;

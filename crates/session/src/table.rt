@@ -30,6 +30,13 @@ impl Table {
         self.role_of.len()
     }
 
+    // The roles of the nodes, in order.
+    pub(crate) fn roles_of(&self) -> &[u8]
+        ensures { result.now ≡ self.now.role_of.items }
+    {
+        &self.role_of
+    }
+
     pub(crate) fn splits(&self) -> usize
         ensures { result ≡ self.now.splits }
     {

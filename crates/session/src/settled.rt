@@ -1,0 +1,1 @@
+// A settled session: its table is the coarsest regular table.
