@@ -2,5 +2,6 @@ pub mod Counted
 pub mod Records
 pub mod Writes
 pub mod Searches
+pub mod Ranges
 pub mod Starts
 pub mod Parts

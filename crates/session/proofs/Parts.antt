@@ -5,14 +5,9 @@ use Rattle.session.specs.declared.table.Table.{Table as RoleTable}
 use Rattle.equivalence.specs.Vetted.{table_of}
 use Rattle.session.specs.Sessions.{parted}
 
-module _ (role : Table) (part : ℕ) (leaves : ℕ → Bool) (next : ℕ) where
-  -- those below y are moved
-  abbrev pub moved : ℕ → Table
-  moved y = parted role part (λ k. leaves k && ltb k y) next
-
 -- the table while the nodes below y are moved
-pub record Moving (role : Table) (nodes part : ℕ) (leaves : ℕ → Bool) (next splits y : ℕ) (now : RoleTable) : Type 0 where
+pub record Moving (role : Table) (nodes : ℕ) (leaves : ℕ → Bool) (next splits y : ℕ) (now : RoleTable) : Type 0 where
   pub still : length now.role_of.items ≡ nodes
   pub one_more : length now.roles.items ≡ next + 1
   pub unsplit : now.splits ≡ splits
-  pub so_far : (k : ℕ) → k < nodes → table_of now.role_of.items k ≡ moved role part leaves next y k
+  pub so_far : (k : ℕ) → k < nodes → table_of now.role_of.items k ≡ parted role (λ k. leaves k && ltb k y) next k

@@ -8,9 +8,3 @@ pub mod role;
 mod table;
 // The refusals of a session.
 pub mod faults;
-// What a step does.
-pub mod step;
-// Ties and colours change, and roles are split.
-pub mod open;
-// The coarsest regular table.
-pub mod settled;

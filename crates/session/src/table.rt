@@ -1,6 +1,8 @@
 // The table of roles.
-ghost use Rattle.std.specs.Prelude.{◌≡◌, ◌<◌, length};
+ghost use Rattle.std.specs.Prelude.{◌≡◌, ◌<◌, length, filter};
+ghost use Rattle.std.specs.List.{range_with_len};
 ghost use Rattle.arrayvec.specs.ArrayVec.{array_vec_len};
+ghost use Rattle.equivalence.specs.Splitting.{members};
 ghost use Rattle.equivalence.specs.Vetted.{table_of};
 ghost use Rattle.equivalence.specs.Coarsest.{roles as number_of_roles};
 ghost use Rattle.session.specs.Roles.{Kept, record_at};
@@ -35,6 +37,19 @@ impl Table {
         ensures { result.now ≡ self.now.role_of.items }
     {
         &self.role_of
+    }
+
+    // The nodes of role r, in order.
+    pub(crate) fn members(&self, r: usize) -> ArrayVec<u8, 128>
+        ensures { result.items ≡ filter (members (table_of self.now.role_of.items) r) (range_with_len 0 (length self.now.role_of.items)) }
+    {
+        let mut nodes = ArrayVec::new();
+        for y in 0..self.role_of.len() {
+            if usize::from(self.role_of[y]) == r {
+                nodes.push(y as u8);
+            }
+        }
+        nodes
     }
 
     pub(crate) fn splits(&self) -> usize

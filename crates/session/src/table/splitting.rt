@@ -41,23 +41,23 @@ impl Table {
         self.role_of[x] = r as u8;
     }
 
-    // Node x, the lowest that leaves, opens the next role, and the others of its role that leave follow it there.
+    // The nodes that leave their role are the next role. Node x is the lowest of them, and all are of its role.
     pub(crate) fn split(&mut self, x: usize, leaves: &[bool; 128])
         requires node { x < length self.old.role_of.items }
         requires later { head_at self.old.roles.items (table_of self.old.role_of.items x) < x }
         requires leaves { flag leaves.now x ≡ true }
         requires lowest { (k : ℕ) → k < x → flag leaves.now k ≡ false }
+        requires mates { (k : ℕ) → k < length self.old.role_of.items → flag leaves.now k ≡ true → table_of self.old.role_of.items k ≡ table_of self.old.role_of.items x }
         requires few { self.old.splits < 128 }
         ensures nodes { length self.new.role_of.items ≡ length self.old.role_of.items }
-        ensures table { (k : ℕ) → k < length self.old.role_of.items → table_of self.new.role_of.items k ≡ parted (table_of self.old.role_of.items) (table_of self.old.role_of.items x) (flag leaves.now) (array_vec_len self.old.roles) k }
+        ensures table { (k : ℕ) → k < length self.old.role_of.items → table_of self.new.role_of.items k ≡ parted (table_of self.old.role_of.items) (flag leaves.now) (array_vec_len self.old.roles) k }
         ensures count { array_vec_len self.new.roles ≡ array_vec_len self.old.roles + 1 }
         ensures splits { self.new.splits ≡ self.old.splits + 1 }
     {
-        let part = self.role_of[x];
         let next = self.roles.len();
         self.open(x);
         for y in x + 1..self.role_of.len() {
-            if leaves[y] && self.role_of[y] == part {
+            if leaves[y] {
                 self.follow(y, next);
             }
         }

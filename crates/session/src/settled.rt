@@ -1,1 +1,0 @@
-// A settled session: its table is the coarsest regular table.
