@@ -1,30 +1,33 @@
 -- From the starting classes by splits to the coarsest regular table within them. Assumes nothing.
-use Rattle.std.proofs.Common.{◌≡◌, ℕ, ◌<◌, eqb, sym, ap, subst, arith}
+use Rattle.std.proofs.Common.{◌≡◌, ℕ, ◌<◌, ◌≤◌, eqb, sym, ap, subst, arith}
 use Rattle.network.specs.Meaning.{Meaning}
 use Rattle.network.proofs.Counting.{count_below_inject}
 use Rattle.measure.specs.Measures.{Operations, Laws}
 use Rattle.equivalence.specs.Regular.{Table, Balanced, Regular}
-use Rattle.equivalence.specs.Coarsest.{Refines, Between, Coarsest, first}
+use Rattle.equivalence.specs.Coarsest.{Refines, Between, Coarsest, first, roles}
 use Rattle.equivalence.specs.Splitting.{members, Split}
 use Rattle.equivalence.proofs.Firsts.{first_decides}
 use Rattle.equivalence.proofs.Unions.{balanced_union}
+
+-- a first node of the coarser table is one of the finer
+pub roles_le : (n : ℕ) (fine coarse : Table) → Refines n fine coarse → roles coarse n ≤ roles fine n
+roles_le n fine coarse refines =
+    count_below_inject (first coarse) (first fine) n n (λ k. k)
+    (λ k l f. (l, (first_decides fine k).1 (λ j under e. (first_decides coarse k).0 f j under (refines j k (omega arith) l e))))
+    (λ j k _ _ _ _ e. e)
 
 module _ {V : Type 0} (o : Operations V) (m : Meaning) where
   pub between_start : (classes role : Table) → Refines m.nodes role classes → Refines m.nodes classes role → Between o m classes role
   between_start classes role fine coarse =
       record { within = fine; above = λ other regular within x y hx hy e. coarse x y hx hy (within x y hx hy e) }
 
-  -- a first node of the coarser table is one of the finer
   pub coarsest_settled : (classes role : Table) → Between o m classes role → Regular o m role → Coarsest o m classes role
   coarsest_settled classes role between regular =
       record {
         regular = regular;
         within = between.within;
         inside = between.above;
-        fewest = λ other balance within.
-            count_below_inject (first role) (first other) m.nodes m.nodes (λ k. k)
-            (λ k l f. (l, (first_decides other k).1 (λ j under e. (first_decides role k).0 f j under (between.above other balance within j k (omega arith) l e))))
-            (λ j k _ _ _ _ e. e);
+        fewest = λ other balance within. roles_le m.nodes other role (between.above other balance within);
       }
 
   pub regular_each : (role : Table) (count : ℕ) → ((x : ℕ) → x < m.nodes → role x < count) → ((c : ℕ) → c < count → Balanced o m role (members role c)) → Regular o m role

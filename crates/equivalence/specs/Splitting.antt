@@ -1,6 +1,7 @@
 -- What a step does to a table that is not regular. Assumes nothing.
 --
 --   members    the set of the nodes of a role
+--   Even       the nodes of one role have equal totals toward a set
 --   Split      one role is split in two by totals toward a role of the old table
 use Rattle.std.specs.Prelude.{◌≡◌, ℕ, ◌<◌, Bool, ◌⊎◌, ◌==◌, ◌≢◌}
 use Rattle.network.specs.Meaning.{Meaning}
@@ -10,6 +11,9 @@ use Rattle.equivalence.specs.Regular.{Table}
 
 abbrev pub members : Table → ℕ → ℕ → Bool
 members role r y = role y == r
+
+abbrev pub Even : {V : Type 0} → Operations V → Meaning → Table → ℕ → (ℕ → Bool) → Type 0
+Even o m role r among = (x y : ℕ) → x < m.nodes → y < m.nodes → role x ≡ r → role y ≡ r → total o m x among ≡ total o m y among
 
 -- role `part` is split by totals toward role `toward`; those that leave make up role `fresh`
 pub record Split {V : Type 0} (o : Operations V) (m : Meaning) (old new : Table) (part toward fresh : ℕ) : Type 0 where

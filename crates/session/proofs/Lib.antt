@@ -5,3 +5,4 @@ pub mod Searches
 pub mod Ranges
 pub mod Starts
 pub mod Parts
+pub mod Keeping

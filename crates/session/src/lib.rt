@@ -8,3 +8,7 @@ pub mod role;
 mod table;
 // The refusals of a session.
 pub mod faults;
+// What a step does.
+pub mod step;
+// Ties and colours change, and roles are split.
+pub mod open;

@@ -15,9 +15,10 @@ mod starting;
 // One role in two.
 mod splitting;
 
-// role_of[x] is the role of node x; roles[r] has the lowest node of role r and its size.
+// colours[x] is the colour of node x, role_of[x] its role; roles[r] has the lowest node of role r and its size.
 #[derive(Drop)]
 pub(crate) struct Table {
+    colours: [u8; 128],
     role_of: ArrayVec<u8, 128>,
     roles: ArrayVec<Role, 128>,
     // How many roles were split since the starting classes.

@@ -10,14 +10,14 @@ pub loop-x-preserved : goal.loop-x-preserved
 loop-x-preserved c =
     let m = c.loop-x.table in
     let roles = m.roles.items in
-    let classes = table_of c.args.colours.now in
+    let classes = table_of m.colours in
     let long = c.loop-x.invariant.0 in
     let start : Starting (length m.role_of.items) classes (table_of m.role_of.items) = rw long (c.loop-x.invariant.1) in
     elim c.match-class.branch [
       | in-Some w ↦
           let next = starting_joined classes m.role_of.items roles m.kept start w.in-Some.r w.in-Some.ensures.0 (w.in-Some.ensures.1 ∙ ap classes (sym long)) in
-          rw (w.table-is, w.join.ensures.table) (length_push m.role_of.items _ ∙ ap (λ k. k + 1) long, rw long at next, w.join.ensures.splits ∙ c.loop-x.invariant.2)
+          rw (w.table-is, w.join.ensures.table, w.join.ensures.colours) (length_push m.role_of.items _ ∙ ap (λ k. k + 1) long, rw long at next, w.join.ensures.splits ∙ c.loop-x.invariant.2, c.loop-x.invariant.3)
       | in-None w ↦
           let next = starting_founded classes m.role_of.items roles m.kept start (λ r known e. w.in-None.ensures r known (e ∙ ap classes long)) in
-          rw (w.table-is, w.found.ensures.table) (length_push m.role_of.items _ ∙ ap (λ k. k + 1) long, rw long at next, w.found.ensures.splits ∙ c.loop-x.invariant.2)
+          rw (w.table-is, w.found.ensures.table, w.found.ensures.colours) (length_push m.role_of.items _ ∙ ap (λ k. k + 1) long, rw long at next, w.found.ensures.splits ∙ c.loop-x.invariant.2, c.loop-x.invariant.3)
     ]

@@ -5,4 +5,4 @@ use Rattle.session.proofs.table.Table.starting.Given as goal
 
 -- the nodes so far are at their starting classes
 abbrev pub invariant-loop-x : goal.invariant-loop-x
-invariant-loop-x l = (length l.table.role_of.items ≡ l.x) × Starting l.x (table_of l.colours) (table_of l.table.role_of.items) × (l.table.splits ≡ 0)
+invariant-loop-x l = (length l.table.role_of.items ≡ l.x) × Starting l.x (table_of l.table.colours) (table_of l.table.role_of.items) × (l.table.splits ≡ 0) × (l.table.colours ≡ l.fn.colours)

@@ -1,0 +1,37 @@
+-- What the table of an open session keeps. Assumes nothing.
+use Rattle.std.proofs.Common.{◌≡◌, ℕ, ◌+◌, length, replicate, inl, inr, arith}
+use Rattle.std.proofs.lemmas.Bool.{cases_lt}
+use Rattle.std.proofs.lemmas.List.{get_or-replicate, get_or_past}
+use Rattle.network.specs.Meaning.{Meaning}
+use Rattle.measure.specs.Measures.{Operations}
+use Rattle.equivalence.specs.Vetted.{table_of}
+use Rattle.equivalence.specs.Regular.{Table}
+use Rattle.equivalence.specs.Coarsest.{Between, roles}
+use Rattle.equivalence.proofs.Refinement.{roles_le, between_start}
+use Rattle.session.specs.Roles.{head_at}
+use Rattle.session.specs.Sessions.{Starting}
+use Rattle.session.specs.Tables.{class_in, role_in}
+use Rattle.session.specs.declared.table.Table.{Table as RoleTable}
+use Rattle.session.proofs.Counted.{counted}
+
+module _ (t : RoleTable) where
+  -- as many records as roles
+  pub records : length t.roles.items ≡ roles (role_in t) (length t.role_of.items)
+  records = counted (length t.role_of.items) (role_in t) (length t.roles.items) (head_at t.roles.items) t.kept.ranged t.kept.headed t.kept.lowest
+
+  -- at the starting classes, no role was split
+  pub counted_start : (n : ℕ) (classes : Table) → length t.role_of.items ≡ n → Starting n classes (role_in t) → t.splits ≡ 0 → t.splits + roles classes n ≡ length t.roles.items
+  counted_start n classes long start unsplit =
+      omega (arith, unsplit, rw long at records, roles_le n (role_in t) classes start.0, roles_le n classes (role_in t) start.1)
+
+pub uncoloured : (x : ℕ) → table_of (replicate 128 0) x ≡ 0
+uncoloured x =
+    elim (cases_lt x 128) [
+      | inl l ↦ get_or-replicate 128 x 0 0 l
+      | inr past ↦ get_or_past (replicate 128 0) x 0 past
+    ]
+
+-- a table at the starting classes keeps what an open session keeps
+module _ {V : Type 0} (o : Operations V) (m : Meaning) (t : RoleTable) (start : Starting m.nodes (class_in t) (role_in t)) where
+  pub between_started : Between o m (class_in t) (role_in t)
+  between_started = between_start o m (class_in t) (role_in t) start.0 start.1
