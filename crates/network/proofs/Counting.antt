@@ -1,6 +1,6 @@
 -- Laws and bounds of sums and counts over the numbers below n. Assumes nothing.
 use Rattle.std.proofs.Common.{◌≡◌, ℕ, zero, suc, ◌+◌, ◌-◌, ◌*◌, ◌<◌, ◌≤◌, Bool, true, false, cond, not, ◌&&◌, eqb, sym, refl, ap, ◌∙◌, inl, inr, add-zero, add-suc, suc-mul, arith}
-use Rattle.std.proofs.lemmas.Bool.{cases_Bool, cases_lt}
+use Rattle.std.proofs.lemmas.Bool.{cases_Bool, cases_lt, cases_eq}
 use Rattle.std.proofs.lemmas.Bool.Decides.{nat_tests}
 use Rattle.network.specs.Meaning.{sum_below, count_below}
 
@@ -115,3 +115,15 @@ count_below_inject p q (suc n) m f goes apart =
 -- one that passes is counted
 pub count_below_pos : (p : ℕ → Bool) (n i : ℕ) → i < n → p i ≡ true → 0 < count_below p n
 count_below_pos p n i l e = omega (arith, count_below_inject (λ _. true) p 1 n (λ _. i) (λ _ _ _. (l, e)) (λ j k hj hk _ _ _. omega arith))
+
+-- where one at the most is counted, those that pass are one
+pub count_below_one : (p : ℕ → Bool) (n i j : ℕ) → i < n → j < n → p i ≡ true → p j ≡ true → count_below p n ≤ 1 → i ≡ j
+count_below_one p n i j li lj pi pj few =
+    elim (cases_eq i j) [
+      | inl e ↦ e
+      | inr ne ↦
+          let rest : ℕ → Bool = λ k. p k && not (eqb k i) in
+          let more = count_below_more rest p n i li (grind (arith, nat_tests)) pi (λ k off. grind (arith, nat_tests)) in
+          let pos = count_below_pos rest n j lj (grind (arith, nat_tests)) in
+          absurd (omega (arith, more, pos))
+    ]

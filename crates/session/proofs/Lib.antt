@@ -6,3 +6,4 @@ pub mod Ranges
 pub mod Starts
 pub mod Parts
 pub mod Keeping
+pub mod Splits

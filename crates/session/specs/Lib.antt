@@ -2,3 +2,4 @@ pub mod Roles
 pub mod Sessions
 pub mod Tables
 pub mod Faults
+pub mod Steps

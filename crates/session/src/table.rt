@@ -33,6 +33,12 @@ impl Table {
         self.role_of.len()
     }
 
+    pub(crate) fn count(&self) -> usize
+        ensures { result ≡ array_vec_len self.now.roles }
+    {
+        self.roles.len()
+    }
+
     // The roles of the nodes, in order.
     pub(crate) fn roles_of(&self) -> &[u8]
         ensures { result.now ≡ self.now.role_of.items }

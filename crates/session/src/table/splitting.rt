@@ -1,5 +1,5 @@
 // One role in two.
-ghost use Rattle.std.specs.Prelude.{◌≡◌, ◌≢◌, ℕ, ◌+◌, ◌<◌, length, slice_set, false, true, MatchOption};
+ghost use Rattle.std.specs.Prelude.{◌≡◌, ◌≢◌, ℕ, ◌+◌, ◌<◌, ◌≤◌, length, slice_set, false, true, MatchOption};
 ghost use Rattle.arrayvec.specs.ArrayVec.{array_vec_len};
 ghost use Rattle.equivalence.specs.Vetted.{table_of};
 ghost use Rattle.session.specs.Roles.{head_at};
@@ -59,7 +59,7 @@ impl Table {
         requires leaves { flag leaves.now x ≡ true }
         requires lowest { (k : ℕ) → k < x → flag leaves.now k ≡ false }
         requires mates { (k : ℕ) → k < length self.old.role_of.items → flag leaves.now k ≡ true → table_of self.old.role_of.items k ≡ table_of self.old.role_of.items x }
-        requires few { self.old.splits < 128 }
+        requires few { self.old.splits ≤ 128 }
         ensures nodes { length self.new.role_of.items ≡ length self.old.role_of.items }
         ensures table { (k : ℕ) → k < length self.old.role_of.items → table_of self.new.role_of.items k ≡ parted (table_of self.old.role_of.items) (flag leaves.now) (array_vec_len self.old.roles) k }
         ensures count { array_vec_len self.new.roles ≡ array_vec_len self.old.roles + 1 }

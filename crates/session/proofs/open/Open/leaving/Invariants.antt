@@ -1,5 +1,5 @@
-use Rattle.std.proofs.Common.{◌≡◌, ◌<◌, ℕ, Bool, filter, length}
-use Rattle.std.specs.List.{range_with_len}
+use Rattle.std.proofs.Common.{◌≡◌, ◌<◌, ℕ, length}
+use Rattle.equivalence.specs.Splitting.{members}
 use Rattle.session.specs.Roles.{head_at}
 use Rattle.session.specs.Sessions.{apart}
 use Rattle.session.specs.Tables.{role_in}
@@ -10,9 +10,5 @@ use Rattle.session.proofs.open.Open.leaving.Given as goal
 abbrev pub invariant-loop-x : goal.invariant-loop-x
 invariant-loop-x g l =
     let m = g.N.Readable.meaning l.self.network in
-    (length l.leaving ≡ 128)
-    × ((among : ℕ → Bool)
-    → l.toward ≡ filter among (range_with_len 0 m.nodes)
-    → (k : ℕ)
-    → k < m.nodes
-    → Flagged (apart g.M.Measure.ops m (role_in l.self.table) l.r (head_at l.self.table.roles.items l.r) among) l.leaving l.x k)
+    let role = role_in l.self.table in
+    (length l.leaving ≡ 128) × ((k : ℕ) → k < m.nodes → Flagged (apart g.M.Measure.ops m role l.r (head_at l.self.table.roles.items l.r) (members role l.c)) l.leaving l.x k)

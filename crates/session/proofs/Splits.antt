@@ -1,0 +1,65 @@
+-- What the nodes that leave a role do to the table. Assumes nothing.
+use Rattle.std.proofs.Common.{◌≡◌, ℕ, ◌+◌, ◌<◌, ◌≤◌, Bool, true, false, not, ◌&&◌, length, sym, refl, ap, ◌∙◌, arith}
+use Rattle.std.proofs.lemmas.Bool.Decides.{nat_tests}
+use Rattle.std.proofs.lemmas.Bool.{eq-eqb}
+use Rattle.network.proofs.Counting.{count_below_one}
+use Rattle.network.specs.Meaning.{Meaning}
+use Rattle.measure.specs.Measures.{Operations, Laws}
+use Rattle.equivalence.specs.Totals.{total}
+use Rattle.equivalence.specs.Coarsest.{Between, roles}
+use Rattle.equivalence.specs.Splitting.{Even, Split, members}
+use Rattle.equivalence.proofs.Parting.{split_parted}
+use Rattle.equivalence.proofs.Refinement.{between_split}
+use Rattle.session.specs.Roles.{head_at, size_at}
+use Rattle.session.specs.Sessions.{apart, parted}
+use Rattle.session.specs.Tables.{class_in, role_in}
+use Rattle.session.specs.declared.table.Table.{Table as RoleTable}
+
+module _ {V : Type 0} (o : Operations V) (laws : Laws o) (m : Meaning) (old : RoleTable) (fits : length old.role_of.items ≡ m.nodes) (r c : ℕ) (part : r < length old.roles.items) where
+  abbrev role : ℕ → ℕ
+  role = role_in old
+
+  abbrev toward : ℕ → Bool
+  toward = members role c
+
+  abbrev head : ℕ
+  head = head_at old.roles.items r
+
+  -- where none leaves, all have the total of the head
+  pub even_none : ((k : ℕ) → k < m.nodes → apart o m role r head toward k ≡ false) → Even o m role r toward
+  even_none none x y hx hy ex ey =
+      let told : (k : ℕ) → k < m.nodes → role k ≡ r → total o m k toward ≡ total o m head toward =
+      λ k l e. (laws.sameness (total o m k toward) (total o m head toward)).0 (grind (arith, nat_tests, none k l, e)) in
+      told x hx ex ∙ sym (told y hy ey)
+
+  -- a single node has no other to differ from
+  pub even_single : size_at old.roles.items r ≤ 1 → Even o m role r toward
+  even_single single x y hx hy ex ey =
+      ap (λ k. total o m k toward)
+      (count_below_one (members role r) (length old.role_of.items) x y (omega (arith, fits)) (omega (arith, fits)) (eq-eqb (role x) r ex) (eq-eqb (role y) r ey) (omega (arith, old.kept.sized r part)))
+
+  module _ (known : c < length old.roles.items) (new : RoleTable) (leaves : ℕ → Bool) (x : ℕ)
+      (flagged : (k : ℕ) → k < m.nodes → leaves k ≡ apart o m role r head toward k)
+      (node : x < length old.role_of.items) (goes : leaves x ≡ true)
+      (moved : (k : ℕ) → k < length old.role_of.items → role_in new k ≡ parted role leaves (length old.roles.items) k) where
+    abbrev fresh : ℕ
+    fresh = length old.roles.items
+
+    -- a node that leaves is of role r
+    leaver : role x ≡ r
+    leaver = grind (arith, nat_tests, flagged x (omega (arith, fits)), goes)
+
+    pub split_leaving : Split o m role (role_in new) r c fresh
+    split_leaving =
+        let test : ℕ → Bool = λ k. not (o.same (total o m k toward) (total o m head toward)) in
+        let inside : (k : ℕ) → k < m.nodes → k < length old.role_of.items = λ k l. omega (arith, fits) in
+        split_parted o laws m role (role_in new) r c fresh head x test
+        (head_at old.roles.items c, omega (arith, fits, (old.kept.headed c known).0), (old.kept.headed c known).1)
+        (λ k l e. omega (arith, old.kept.ranged k (inside k l)))
+        (omega (arith, fits, (old.kept.headed r part).0)) (old.kept.headed r part).1
+        (omega (arith, fits)) leaver (grind (arith, nat_tests, flagged x (omega (arith, fits)), goes))
+        (λ k l e. refl)
+        (λ k l. grind (arith, nat_tests, moved k (inside k l), flagged k l))
+
+  pub between_leaving : (new : RoleTable) → Split o m role (role_in new) r c (length old.roles.items) → new.colours ≡ old.colours → Between o m (class_in old) role → Between o m (class_in new) (role_in new)
+  between_leaving new split same between = rw same (between_split o laws m (class_in old) role (role_in new) r c (length old.roles.items) between split)
