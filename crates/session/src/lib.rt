@@ -12,3 +12,5 @@ pub mod faults;
 pub mod step;
 // Ties and colours change, and roles are split.
 pub mod open;
+// The coarsest regular table.
+pub mod settled;
