@@ -1,12 +1,12 @@
 -- What the nodes that leave a role do to the table. Assumes nothing.
-use Rattle.std.proofs.Common.{◌≡◌, ℕ, ◌+◌, ◌<◌, ◌≤◌, Bool, true, false, not, ◌&&◌, length, sym, refl, ap, ◌∙◌, arith}
+use Rattle.std.proofs.Common.{◌≡◌, ℕ, ◌<◌, ◌≤◌, Bool, true, false, not, length, sym, refl, ap, ◌∙◌, arith}
 use Rattle.std.proofs.lemmas.Bool.Decides.{nat_tests}
 use Rattle.std.proofs.lemmas.Bool.{eq-eqb}
 use Rattle.network.proofs.Counting.{count_below_one}
 use Rattle.network.specs.Meaning.{Meaning}
 use Rattle.measure.specs.Measures.{Operations, Laws}
 use Rattle.equivalence.specs.Totals.{total}
-use Rattle.equivalence.specs.Coarsest.{Between, roles}
+use Rattle.equivalence.specs.Coarsest.{Between}
 use Rattle.equivalence.specs.Splitting.{Even, Split, members}
 use Rattle.equivalence.proofs.Parting.{split_parted}
 use Rattle.equivalence.proofs.Refinement.{between_split}

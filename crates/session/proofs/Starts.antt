@@ -30,13 +30,14 @@ module _ (n : ℕ) (classes old new : Table) (r : ℕ) (takes : Puts old new n r
 
   -- the next node takes role r, which has the nodes of its class
   pub starting_more : ((k : ℕ) → k < n → old k ≡ r → classes k ≡ classes n) → ((k : ℕ) → k < n → classes k ≡ classes n → old k ≡ r) → Starting n classes old → Starting (n + 1) classes new
-  starting_more inside whole (within, coarse) =
-      (refines_more n new classes
-      (λ x y hx hy e. within x y hx hy (sym (earlier x hx) ∙ e ∙ earlier y hy))
-      (λ k l e. inside k l (sym (earlier k l) ∙ e ∙ takes.here)),
-      refines_more n classes new
-      (λ x y hx hy e. earlier x hx ∙ coarse x y hx hy e ∙ sym (earlier y hy))
-      (λ k l e. earlier k l ∙ whole k l e ∙ sym takes.here))
+  starting_more inside whole (within, coarse) = (
+    refines_more n new classes
+        (λ x y hx hy e. within x y hx hy (sym (earlier x hx) ∙ e ∙ earlier y hy))
+        (λ k l e. inside k l (sym (earlier k l) ∙ e ∙ takes.here)),
+    refines_more n classes new
+        (λ x y hx hy e. earlier x hx ∙ coarse x y hx hy e ∙ sym (earlier y hy))
+        (λ k l e. earlier k l ∙ whole k l e ∙ sym takes.here),
+  )
 
 module _ (classes : Table) (role_of : List ℕ) (roles : List Role) (kept : Kept role_of roles) (start : Starting (length role_of) classes (table_of role_of)) where
   abbrev Next : ℕ → Type 0

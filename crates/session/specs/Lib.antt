@@ -3,3 +3,4 @@ pub mod Sessions
 pub mod Tables
 pub mod Faults
 pub mod Steps
+pub mod Tellings

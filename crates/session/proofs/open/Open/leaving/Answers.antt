@@ -28,6 +28,7 @@ loop-x-preserved g c =
     c.leaves.ensures (members role c.args.c) again
     ∙ ap (λ v. eqb (role c.loop-x.x) c.args.r && not (g.M.Measure.ops.same (total g.M.Measure.ops (g.N.Readable.meaning s.network) c.loop-x.x (members role c.args.c)) v))
     (c.total_over-total.ensures (members role c.args.c) once ∙ ap (λ (v : Role). total g.M.Measure.ops (g.N.Readable.meaning s.network) v.head (members role c.args.c)) c.role-head.ensures)
-    in
-    (length-set c.loop-x.leaving c.loop-x.x c.leaves.result ∙ c.loop-x.invariant.0,
-    λ k l. rw here (flags_more test c.loop-x.leaving c.loop-x.x k few (c.loop-x.invariant.1 k l)))
+    in (
+      length-set c.loop-x.leaving c.loop-x.x c.leaves.result ∙ c.loop-x.invariant.0,
+      λ k l. rw here (flags_more test c.loop-x.leaving c.loop-x.x k few (c.loop-x.invariant.1 k l)),
+    )

@@ -1,4 +1,4 @@
-use Rattle.std.proofs.Common.{◌≡◌, ◌∙◌, sym, ap, length}
+use Rattle.std.proofs.Common.{◌∙◌, sym}
 use Rattle.equivalence.specs.Coarsest.{Between}
 use Rattle.equivalence.specs.Regular.{Regular}
 use Rattle.equivalence.proofs.Refinement.{coarsest_settled}

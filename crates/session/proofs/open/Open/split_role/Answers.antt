@@ -1,4 +1,4 @@
-use Rattle.std.proofs.Common.{◌≡◌, ◌<◌, ◌∙◌, ℕ, List, length, sym, ap, arith}
+use Rattle.std.proofs.Common.{◌≡◌, ◌∙◌, ℕ, List, length, sym, ap, arith}
 use Rattle.equivalence.specs.Coarsest.{roles}
 use Rattle.equivalence.specs.Splitting.{Split}
 use Rattle.equivalence.specs.Vetted.{table_of}

@@ -1,4 +1,4 @@
-use Rattle.std.proofs.Common.{◌≡◌, ◌<◌, ◌≤◌, length, ◌∙◌, List, below_more, refl, sym, ap, arith}
+use Rattle.std.proofs.Common.{◌<◌, length, ◌∙◌, below_more, refl, sym, ap, arith}
 use Rattle.equivalence.specs.Splitting.{Even, members}
 use Rattle.session.specs.Roles.{size_at}
 use Rattle.session.specs.Tables.{role_in}

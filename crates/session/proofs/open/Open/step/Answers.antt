@@ -1,5 +1,4 @@
 use Rattle.std.proofs.Common.{rules, ◌≡◌, ◌+◌, ◌∙◌, length, sym, ap, refl, arith}
-use Rattle.equivalence.specs.Splitting.{Split}
 use Rattle.equivalence.specs.Coarsest.{roles}
 use Rattle.equivalence.specs.Regular.{Regular}
 use Rattle.equivalence.proofs.Refinement.{split_irregular, regular_each}

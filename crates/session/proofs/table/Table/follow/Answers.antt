@@ -13,7 +13,7 @@ shrink-requires c =
     rw (at, c.deref_mut.ensures.value) (part_pos m.role_of.items m.roles.items x m.kept c.requires.node c.requires.later)
 
 pub grow-requires : goal.grow-requires
-grow-requires c = 
+grow-requires c =
     let m = c.args.self.now in
     let x = c.args.x in
     let at : c.from-part.result ≡ table_of m.role_of.items x = c.from-part.ensures ∙ ap (λ (xs : List ℕ). get_or xs x 0) c.deref.ensures.0 in

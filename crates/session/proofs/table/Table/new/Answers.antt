@@ -1,4 +1,4 @@
-use Rattle.std.proofs.Common.{◌≡◌, ◌∙◌, ap, replicate}
+use Rattle.std.proofs.Common.{◌∙◌, ap}
 use Rattle.equivalence.specs.Vetted.{table_of}
 use Rattle.session.proofs.Keeping.{uncoloured}
 use Rattle.session.proofs.table.Table.new.Goals as goal
