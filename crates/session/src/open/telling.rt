@@ -1,6 +1,6 @@
 // What both kinds of session tell.
 ghost use Rattle.std.specs.Prelude.{◌≡◌, ◌+◌, ◌<◌, ◌≤◌, length, IfOk, MatchResult};
-ghost use Rattle.equivalence.specs.Coarsest.{roles};
+ghost use Rattle.equivalence.specs.Coarsest.{Between, roles};
 ghost use Rattle.session.specs.Tables.{class_in, role_in};
 ghost use Rattle.session.specs.Tellings.{Described, role_answer};
 ghost use Rattle.session.specs.declared.faults.Fault.{Fault};
@@ -49,10 +49,11 @@ impl<N: Editable, M: Measure> Open<N, M> {
         Ok(self.table.role(r))
     }
 
-    // The role of each node, in order.
+    // The role of each node, in order. Within the starting classes, and coarser than every regular table within them.
     pub fn table(&self) -> &[u8]
         ensures roles { result.now ≡ self.now.table.role_of.items }
         ensures nodes { length result.now ≡ (N.Readable.meaning self.now.network).nodes }
+        ensures between { Between M.Measure.ops (N.Readable.meaning self.now.network) (class_in self.now.table) (role_in self.now.table) }
     {
         self.table.roles_of()
     }
