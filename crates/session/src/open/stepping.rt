@@ -41,8 +41,8 @@ impl<N: Editable, M: Measure> Open<N, M> {
         let head = self.table.role(r).head;
         let total = total_over(&self.network, &self.measure, head, &nodes);
         let mut leaving = [false; 128];
-        for x in 0..self.table.nodes() {
-            leaving[x] = self.leaves(x, r, total, &nodes);
+        for (x, leaves) in leaving[..self.table.nodes()].iter_mut().enumerate() {
+            *leaves = self.leaves(x, r, total, &nodes);
         }
         leaving
     }

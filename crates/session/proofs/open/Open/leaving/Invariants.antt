@@ -1,9 +1,8 @@
 use Rattle.std.proofs.Common.{◌≡◌, ◌<◌, ℕ, length}
 use Rattle.equivalence.specs.Splitting.{members}
 use Rattle.session.specs.Roles.{head_at}
-use Rattle.session.specs.Sessions.{apart}
+use Rattle.session.specs.Sessions.{apart, flag}
 use Rattle.session.specs.Tables.{role_in}
-use Rattle.session.proofs.Parts.{Flagged}
 use Rattle.session.proofs.open.Open.leaving.Given as goal
 
 -- the flags of the nodes below x are set
@@ -11,4 +10,4 @@ abbrev pub invariant-loop-x : goal.invariant-loop-x
 invariant-loop-x g l =
     let m = g.N.Readable.meaning l.self.network in
     let role = role_in l.self.table in
-    (length l.leaving ≡ 128) × ((k : ℕ) → k < m.nodes → Flagged (apart g.M.Measure.ops m role l.r (head_at l.self.table.roles.items l.r) (members role l.c)) l.leaving l.x k)
+    (k : ℕ) → k < l.x → flag l.leaves-items k ≡ apart g.M.Measure.ops m role l.r (head_at l.self.table.roles.items l.r) (members role l.c) k
