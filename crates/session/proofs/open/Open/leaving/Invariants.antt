@@ -1,4 +1,4 @@
-use Rattle.std.proofs.Common.{◌≡◌, ◌<◌, ℕ, length}
+use Rattle.std.proofs.Common.{◌≡◌, ◌<◌, ℕ}
 use Rattle.equivalence.specs.Splitting.{members}
 use Rattle.session.specs.Roles.{head_at}
 use Rattle.session.specs.Sessions.{apart, flag}
