@@ -47,12 +47,13 @@ impl Table {
     }
 
     // The nodes of role r, in order.
+    #[tactic(auto, using(crate::proofs::Ranges::filter_in, crate::proofs::Ranges::filter_out))]
     pub(crate) fn members(&self, r: usize) -> ArrayVec<u8, 128>
         ensures { result.items ≡ filter (members (table_of self.now.role_of.items) r) (range_with_len 0 (length self.now.role_of.items)) }
     {
         let mut nodes = ArrayVec::new();
-        for y in 0..self.role_of.len() {
-            if usize::from(self.role_of[y]) == r {
+        for (y, &role) in self.role_of.iter().enumerate() {
+            if usize::from(role) == r {
                 nodes.push(y as u8);
             }
         }

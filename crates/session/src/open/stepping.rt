@@ -19,18 +19,6 @@ use measure::interface::Measure;
 use network::interface::Editable;
 
 impl<N: Editable, M: Measure> Open<N, M> {
-    // Whether node x is of role r, and has another total toward the nodes than `head`.
-    fn leaves(&self, x: usize, r: usize, head: M::Value, toward: &[u8]) -> bool
-        requires { x < (N.Readable.meaning self.now.network).nodes }
-        ensures { let o = M.Measure.ops in let m = N.Readable.meaning self.now.network in
-            (among : ℕ → Bool) → toward.now ≡ filter among (range_with_len 0 m.nodes) → result ≡ (role_in self.now.table x == r && not (o.same (total o m x among) head)) }
-    {
-        self.table.role_of(x) == r
-            && !self
-                .measure
-                .same(total_over(&self.network, &self.measure, x, toward), head)
-    }
-
     // The nodes of role r whose total toward role c is not that of the head of r.
     fn leaving(&self, r: usize, c: usize) -> [bool; 128]
         requires { r < array_vec_len self.now.table.roles }
@@ -42,7 +30,8 @@ impl<N: Editable, M: Measure> Open<N, M> {
         let total = total_over(&self.network, &self.measure, head, &nodes);
         let mut leaving = [false; 128];
         for (x, leaves) in leaving[..self.table.nodes()].iter_mut().enumerate() {
-            *leaves = self.leaves(x, r, total, &nodes);
+            *leaves = self.table.role_of(x) == r
+                && !self.measure.same(total_over(&self.network, &self.measure, x, &nodes), total);
         }
         leaving
     }
