@@ -29,6 +29,7 @@ pub struct Open<N: Editable, M: Measure> {
 
 impl<N: Editable, M: Measure> Open<N, M> {
     // Every colour is 0.
+    #[tactic(auto, using(crate::proofs::Keeping::between_started, crate::proofs::Keeping::counted_start))]
     pub fn new(network: N, measure: M) -> Self
         ensures network { result.network ≡ network }
         ensures colours { (x : ℕ) → class_in result.table x ≡ 0 }
@@ -43,6 +44,7 @@ impl<N: Editable, M: Measure> Open<N, M> {
         }
     }
 
+    #[tactic(auto, using(crate::proofs::Keeping::between_started, crate::proofs::Keeping::counted_start, crate::proofs::Keeping::nodes_put))]
     pub fn put(&mut self, i: usize, j: usize, b: u8) -> Result<(), network::faults::Fault>
         ensures answer { result ≡ put_answer (N.Readable.meaning self.old.network) i j b }
         ensures network { N.Readable.meaning self.new.network ≡ put_after (N.Readable.meaning self.old.network) i j b }
@@ -55,6 +57,7 @@ impl<N: Editable, M: Measure> Open<N, M> {
         Ok(())
     }
 
+    #[tactic(auto, using(crate::proofs::Keeping::between_started, crate::proofs::Keeping::counted_start))]
     pub fn colour(&mut self, i: usize, c: u8) -> Result<(), Fault>
         ensures answer { result ≡ colour_answer (N.Readable.meaning self.old.network).nodes i }
         ensures network { self.new.network ≡ self.old.network }

@@ -13,6 +13,7 @@ use network::interface::Editable;
 
 impl<N: Editable, M: Measure> Open<N, M> {
     // How many roles there are.
+    #[tactic(auto, using(crate::proofs::Keeping::numbered))]
     pub fn roles(&self) -> usize
         ensures { result ≡ roles (role_in self.now.table) (N.Readable.meaning self.now.network).nodes }
     {
@@ -20,6 +21,7 @@ impl<N: Editable, M: Measure> Open<N, M> {
     }
 
     // How many roles were split since the table was at the starting classes.
+    #[tactic(auto, using(crate::proofs::Keeping::numbered))]
     pub fn splits(&self) -> usize
         ensures count { result ≡ self.now.table.splits }
         ensures classes { result + roles (class_in self.now.table) (N.Readable.meaning self.now.network).nodes ≡ roles (role_in self.now.table) (N.Readable.meaning self.now.network).nodes }
@@ -28,6 +30,7 @@ impl<N: Editable, M: Measure> Open<N, M> {
     }
 
     // The role of node x.
+    #[tactic(auto, using(crate::proofs::Keeping::role_lt))]
     pub fn role_of(&self, x: usize) -> Result<usize, Fault>
         ensures answer { result ≡ role_answer (N.Readable.meaning self.now.network).nodes (role_in self.now.table) x }
         ensures below { IfOk result (λ r. r < roles (role_in self.now.table) (N.Readable.meaning self.now.network).nodes) }
@@ -39,6 +42,7 @@ impl<N: Editable, M: Measure> Open<N, M> {
     }
 
     // The head and the size of role r.
+    #[tactic(auto, using(crate::proofs::Keeping::numbered, crate::proofs::Keeping::described))]
     pub fn role(&self, r: usize) -> Result<Role, Fault>
         ensures { let n = (N.Readable.meaning self.now.network).nodes in let role = role_in self.now.table in
             MatchResult result (λ v. (r < roles role n) × Described n role r v) (λ f. (f ≡ Fault.Role) × (roles role n ≤ r)) }

@@ -38,6 +38,7 @@ impl Table {
     }
 
     // The next node is a role of its own.
+    #[tactic(auto, using(crate::proofs::Writes::founded))]
     fn found(&mut self)
         requires room { array_vec_len self.old.role_of < 128 }
         ensures table { self.new.role_of.items ≡ self.old.role_of.items ++ array_vec_len self.old.roles ∷ [] }
