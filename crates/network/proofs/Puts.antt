@@ -14,11 +14,3 @@ by_answer {X} x y r e = subst (λ s. elim s as (λ _. X) [ Ok _ ↦ x | Err _ �
 
 pub put_accepted : (m : Meaning) (i j b : ℕ) → put_answer m i j b ≡ Ok tt → put_after m i j b ≡ with_tie m i j b
 put_accepted m i j b e = by_answer (with_tie m i j b) m (put_answer m i j b) e
-
--- a put leaves the nodes
-pub nodes-put : (m : Meaning) (i j b : ℕ) → (put_after m i j b).nodes ≡ m.nodes
-nodes-put m i j b =
-    elim (put_answer m i j b) as (λ r. (elim r as (λ _. Meaning) [ Ok _ ↦ with_tie m i j b | Err _ ↦ m ]).nodes ≡ m.nodes) [
-      | Ok _ ↦ refl
-      | Err _ ↦ refl
-    ]

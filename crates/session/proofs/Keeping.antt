@@ -3,8 +3,6 @@ use Rattle.std.proofs.Common.{◌≡◌, ℕ, ◌+◌, ◌<◌, length, replicat
 use Rattle.std.proofs.lemmas.Bool.{cases_lt}
 use Rattle.std.proofs.lemmas.List.{get_or-replicate, get_or_past}
 use Rattle.network.specs.Meaning.{Meaning}
-use Rattle.network.specs.Put.{put_after}
-use Rattle.network.proofs.Puts.{nodes-put}
 use Rattle.measure.specs.Measures.{Operations}
 use Rattle.equivalence.specs.Vetted.{table_of}
 use Rattle.equivalence.specs.Regular.{Table}
@@ -55,6 +53,3 @@ uncoloured x =
 module _ {V : Type 0} (o : Operations V) (m : Meaning) (t : RoleTable) (start : Starting m.nodes (class_in t) (role_in t)) where
   pub between_started : Between o m (class_in t) (role_in t)
   between_started = between_start o m (class_in t) (role_in t) start.0 start.1
-
-pub nodes_put : (m : Meaning) (i j b : ℕ) → (put_after m i j b).nodes ≡ m.nodes
-nodes_put = nodes-put

@@ -44,7 +44,7 @@ impl<N: Editable, M: Measure> Open<N, M> {
         }
     }
 
-    #[tactic(auto, using(crate::proofs::Keeping::between_started, crate::proofs::Keeping::counted_start, crate::proofs::Keeping::nodes_put))]
+    #[tactic(auto, using(crate::proofs::Keeping::between_started, crate::proofs::Keeping::counted_start))]
     pub fn put(&mut self, i: usize, j: usize, b: u8) -> Result<(), network::faults::Fault>
         ensures answer { result ≡ put_answer (N.Readable.meaning self.old.network) i j b }
         ensures network { N.Readable.meaning self.new.network ≡ put_after (N.Readable.meaning self.old.network) i j b }

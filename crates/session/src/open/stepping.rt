@@ -31,12 +31,15 @@ impl<N: Editable, M: Measure> Open<N, M> {
         let mut leaving = [false; 128];
         for (x, leaves) in leaving[..self.table.nodes()].iter_mut().enumerate() {
             *leaves = self.table.role_of(x) == r
-                && !self.measure.same(total_over(&self.network, &self.measure, x, &nodes), total);
+                && !self
+                    .measure
+                    .same(total_over(&self.network, &self.measure, x, &nodes), total);
         }
         leaving
     }
 
     // Splits role r by totals toward role c, where they differ in it.
+    #[tactic(auto, using(crate::proofs::Splits::even_none))]
     fn split_role(&mut self, r: usize, c: usize) -> bool
         requires part { r < array_vec_len self.old.table.roles }
         requires toward { c < array_vec_len self.old.table.roles }

@@ -1,16 +1,11 @@
-use Rattle.std.proofs.Common.{◌≡◌, ◌∙◌, ℕ, List, length, sym, ap, arith}
+use Rattle.std.proofs.Common.{◌≡◌, ◌∙◌, ℕ, List, length, ap, arith}
 use Rattle.equivalence.specs.Coarsest.{roles}
 use Rattle.equivalence.specs.Splitting.{Split}
 use Rattle.equivalence.specs.Vetted.{table_of}
 use Rattle.session.specs.Sessions.{flag}
 use Rattle.session.specs.Tables.{class_in, role_in}
-use Rattle.session.proofs.Splits.{even_none, split_leaving, between_leaving}
+use Rattle.session.proofs.Splits.{split_leaving, between_leaving}
 use Rattle.session.proofs.open.Open.split_role.Goals as goal
-
-pub split-requires-clause-few : goal.split-requires-clause-few
-split-requires-clause-few g c =
-    let s = c.args.self.now in
-    omega (arith, s.counted, s.table.kept.packed, s.table.kept.few)
 
 pub invariant_of-self : goal.invariant_of-self
 invariant_of-self g c =
@@ -25,12 +20,6 @@ invariant_of-self g c =
       between = between_leaving g.M.Measure.ops g.met.M.Measure.lawful m s.table s.fits c.args.r c.args.c c.requires.part new split c.split.ensures.colours s.between;
       counted = omega (arith, same, s.counted, c.split.ensures.count, c.split.ensures.splits);
     }
-
-pub returns-in-None-clause-even : goal.returns-in-None-clause-even
-returns-in-None-clause-even g c same =
-    let s = c.args.self.now in
-    even_none g.M.Measure.ops g.met.M.Measure.lawful (g.N.Readable.meaning s.network) s.table s.fits c.args.r c.args.c c.requires.part
-    (λ k l. sym (c.leaving-leaving.ensures k l) ∙ c.in-None.ensures k (omega (arith, s.fits)))
 
 pub returns-in-Some-clause-split : goal.returns-in-Some-clause-split
 returns-in-Some-clause-split g c same =
