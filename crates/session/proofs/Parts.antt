@@ -3,7 +3,7 @@ use Rattle.std.proofs.Common.{◌≡◌, ℕ, ◌+◌, ◌<◌, length, List, Bo
 use Rattle.equivalence.specs.Regular.{Table}
 use Rattle.session.specs.declared.table.Table.{Table as RoleTable}
 use Rattle.equivalence.specs.Vetted.{table_of}
-use Rattle.session.specs.Sessions.{parted}
+use Rattle.session.specs.Leaving.{parted}
 
 -- the table while the nodes below y are moved
 pub record Moving (role : Table) (nodes : ℕ) (leaves : ℕ → Bool) (next splits y : ℕ) (colours : List ℕ) (now : RoleTable) : Type 0 where

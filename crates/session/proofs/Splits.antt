@@ -11,7 +11,7 @@ use Rattle.equivalence.specs.Splitting.{Even, Split, members}
 use Rattle.equivalence.proofs.Parting.{split_parted}
 use Rattle.equivalence.proofs.Refinement.{between_split}
 use Rattle.session.specs.Roles.{head_at, size_at}
-use Rattle.session.specs.Sessions.{apart, parted}
+use Rattle.session.specs.Leaving.{apart, parted}
 use Rattle.session.specs.Tables.{class_in, role_in}
 use Rattle.session.specs.declared.table.Table.{Table as RoleTable}
 

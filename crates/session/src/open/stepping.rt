@@ -1,13 +1,11 @@
 // The search for a split. Partition refinement by roles of the table itself, without the smaller-half rule: a measure has no subtraction.
 // A step reads each ordered pair of nodes a constant number of times.
-ghost use Rattle.std.specs.Prelude.{◌≡◌, ◌↔◌, ℕ, Bool, true, false, ◌+◌, ◌<◌, filter, not, ◌&&◌, ◌==◌, MatchOption};
-ghost use Rattle.std.specs.List.{range_with_len};
+ghost use Rattle.std.specs.Prelude.{◌≡◌, ◌↔◌, ℕ, true, false, ◌+◌, ◌<◌, MatchOption};
 ghost use Rattle.arrayvec.specs.ArrayVec.{array_vec_len};
-ghost use Rattle.equivalence.specs.Totals.{total};
 ghost use Rattle.equivalence.specs.Regular.{Balanced, Regular};
 ghost use Rattle.equivalence.specs.Splitting.{Even, Split, members};
 ghost use Rattle.session.specs.Roles.{head_at};
-ghost use Rattle.session.specs.Sessions.{flag, apart};
+ghost use Rattle.session.specs.Leaving.{flag, apart};
 ghost use Rattle.session.specs.Steps.{Stepped};
 ghost use Rattle.session.specs.declared.step.Step.{Step};
 ghost use Rattle.session.specs.Tables.{role_in};

@@ -3,7 +3,7 @@ ghost use Rattle.std.specs.Prelude.{◌≡◌, ◌≢◌, ℕ, ◌+◌, ◌<◌,
 ghost use Rattle.arrayvec.specs.ArrayVec.{array_vec_len};
 ghost use Rattle.equivalence.specs.Vetted.{table_of};
 ghost use Rattle.session.specs.Roles.{head_at};
-ghost use Rattle.session.specs.Sessions.{flag, parted};
+ghost use Rattle.session.specs.Leaving.{flag, parted};
 
 use super::super::role::Role;
 use super::Table;

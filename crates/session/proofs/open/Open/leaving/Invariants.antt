@@ -1,7 +1,7 @@
 use Rattle.std.proofs.Common.{◌≡◌, ◌<◌, ℕ}
 use Rattle.equivalence.specs.Splitting.{members}
 use Rattle.session.specs.Roles.{head_at}
-use Rattle.session.specs.Sessions.{apart, flag}
+use Rattle.session.specs.Leaving.{apart, flag}
 use Rattle.session.specs.Tables.{role_in}
 use Rattle.session.proofs.open.Open.leaving.Given as goal
 

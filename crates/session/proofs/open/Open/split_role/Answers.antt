@@ -2,7 +2,7 @@ use Rattle.std.proofs.Common.{◌≡◌, ◌∙◌, ℕ, List, length, ap, arith
 use Rattle.equivalence.specs.Coarsest.{roles}
 use Rattle.equivalence.specs.Splitting.{Split}
 use Rattle.equivalence.specs.Vetted.{table_of}
-use Rattle.session.specs.Sessions.{flag}
+use Rattle.session.specs.Leaving.{flag}
 use Rattle.session.specs.Tables.{class_in, role_in}
 use Rattle.session.proofs.Splits.{split_leaving, between_leaving}
 use Rattle.session.proofs.open.Open.split_role.Goals as goal

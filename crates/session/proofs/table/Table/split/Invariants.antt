@@ -1,6 +1,6 @@
 use Rattle.std.proofs.Common.{length}
 use Rattle.equivalence.specs.Vetted.{table_of}
-use Rattle.session.specs.Sessions.{flag}
+use Rattle.session.specs.Leaving.{flag}
 use Rattle.session.proofs.Parts.{Moving}
 use Rattle.session.proofs.table.Table.split.Given as goal
 
