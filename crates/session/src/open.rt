@@ -32,6 +32,7 @@ impl<N: Editable, M: Measure> Open<N, M> {
     #[tactic(auto, using(crate::proofs::Keeping::between_started, crate::proofs::Keeping::counted_start))]
     pub fn new(network: N, measure: M) -> Self
         ensures network { result.network ≡ network }
+        ensures measure { result.measure ≡ measure }
         ensures colours { (x : ℕ) → class_in result.table x ≡ 0 }
         ensures start { Starting (N.Readable.meaning network).nodes (class_in result.table) (role_in result.table) }
         ensures splits { result.table.splits ≡ 0 }
@@ -48,6 +49,7 @@ impl<N: Editable, M: Measure> Open<N, M> {
     pub fn put(&mut self, i: usize, j: usize, b: u8) -> Result<(), network::faults::Fault>
         ensures answer { result ≡ put_answer (N.Readable.meaning self.old.network) i j b }
         ensures network { N.Readable.meaning self.new.network ≡ put_after (N.Readable.meaning self.old.network) i j b }
+        ensures measure { self.new.measure ≡ self.old.measure }
         ensures colours { self.new.table.colours ≡ self.old.table.colours }
         ensures accepted { OnOk result (Starting (N.Readable.meaning self.new.network).nodes (class_in self.new.table) (role_in self.new.table) × (self.new.table.splits ≡ 0)) }
         ensures refused { OnErr result (self.new.table ≡ self.old.table) }
@@ -61,6 +63,7 @@ impl<N: Editable, M: Measure> Open<N, M> {
     pub fn colour(&mut self, i: usize, c: u8) -> Result<(), Fault>
         ensures answer { result ≡ colour_answer (N.Readable.meaning self.old.network).nodes i }
         ensures network { self.new.network ≡ self.old.network }
+        ensures measure { self.new.measure ≡ self.old.measure }
         ensures colours { self.new.table.colours ≡ colours_after (N.Readable.meaning self.old.network).nodes self.old.table.colours i c }
         ensures accepted { OnOk result (Starting (N.Readable.meaning self.new.network).nodes (class_in self.new.table) (role_in self.new.table) × (self.new.table.splits ≡ 0)) }
         ensures refused { OnErr result (self.new.table ≡ self.old.table) }

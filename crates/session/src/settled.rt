@@ -24,6 +24,7 @@ impl<N: Editable, M: Measure> Open<N, M> {
     // Splits roles until the table is regular: at most n - 1 splits, and one step more.
     pub fn settle(mut self) -> Settled<N, M>
         ensures network { result.session.network ≡ self.network }
+        ensures measure { result.session.measure ≡ self.measure }
         ensures colours { result.session.table.colours ≡ self.table.colours }
         ensures coarsest { Coarsest M.Measure.ops (N.Readable.meaning self.network) (class_in self.table) (role_in result.session.table) }
         ensures splits { result.session.table.splits + roles (class_in self.table) (N.Readable.meaning self.network).nodes ≡ roles (role_in result.session.table) (N.Readable.meaning self.network).nodes }

@@ -4,7 +4,6 @@ ghost use Rattle.std.specs.List.{range_with_len};
 ghost use Rattle.arrayvec.specs.ArrayVec.{array_vec_len};
 ghost use Rattle.equivalence.specs.Splitting.{members};
 ghost use Rattle.equivalence.specs.Vetted.{table_of};
-ghost use Rattle.equivalence.specs.Coarsest.{roles as number_of_roles};
 ghost use Rattle.session.specs.Roles.{Kept, record_at};
 
 use super::role::Role;

@@ -47,6 +47,7 @@ impl<N: Editable, M: Measure> Open<N, M> {
         ensures count { result ≡ true → array_vec_len self.new.table.roles ≡ array_vec_len self.old.table.roles + 1 }
         ensures splits { result ≡ true → self.new.table.splits ≡ self.old.table.splits + 1 }
         ensures network { self.new.network ≡ self.old.network }
+        ensures measure { self.new.measure ≡ self.old.measure }
         ensures colours { self.new.table.colours ≡ self.old.table.colours }
     {
         let leaving = self.leaving(r, c);
@@ -67,6 +68,7 @@ impl<N: Editable, M: Measure> Open<N, M> {
             (λ part. Split M.Measure.ops (N.Readable.meaning self.old.network) (role_in self.old.table) (role_in self.new.table) part c (array_vec_len self.old.table.roles)
             × (array_vec_len self.new.table.roles ≡ array_vec_len self.old.table.roles + 1) × (self.new.table.splits ≡ self.old.table.splits + 1)) }
         ensures network { self.new.network ≡ self.old.network }
+        ensures measure { self.new.measure ≡ self.old.measure }
         ensures colours { self.new.table.colours ≡ self.old.table.colours }
     {
         for r in 0..self.table.count() {
@@ -83,6 +85,7 @@ impl<N: Editable, M: Measure> Open<N, M> {
         ensures stable { (result ≡ Step.Stable) ↔ Regular M.Measure.ops (N.Readable.meaning self.old.network) (role_in self.old.table) }
         ensures stepped { Stepped M.Measure.ops (N.Readable.meaning self.old.network) self.old.table self.new.table result }
         ensures network { self.new.network ≡ self.old.network }
+        ensures measure { self.new.measure ≡ self.old.measure }
         ensures colours { self.new.table.colours ≡ self.old.table.colours }
     {
         let fresh = self.table.count();

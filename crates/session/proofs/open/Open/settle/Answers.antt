@@ -14,7 +14,7 @@ returns-clause-coarsest g c =
     let net = c.step.ensures.network ∙ c.loop.invariant.0 in
     let stop = c.in_default.ensures.stepped in
     let regular : Regular g.M.Measure.ops m (role_in new.table) = rw (c.loop.invariant.0, sym stop.1) at stop.0 in
-    let between : Between g.M.Measure.ops m (class_in s.table) (role_in new.table) = rw (net, c.step.ensures.colours ∙ c.loop.invariant.1) at new.between in
+    let between : Between g.M.Measure.ops m (class_in s.table) (role_in new.table) = rw (net, c.step.ensures.colours ∙ c.loop.invariant.2) at new.between in
     coarsest_settled g.M.Measure.ops m (class_in s.table) (role_in new.table) between regular
 
 pub returns-clause-splits : goal.returns-clause-splits
@@ -23,5 +23,5 @@ returns-clause-splits g c =
     let m = g.N.Readable.meaning s.network in
     let new = c.step.new.self in
     let net = c.step.ensures.network ∙ c.loop.invariant.0 in
-    let counted = rw (net, c.step.ensures.colours ∙ c.loop.invariant.1) at new.counted in
+    let counted = rw (net, c.step.ensures.colours ∙ c.loop.invariant.2) at new.counted in
     counted ∙ rw (new.fits, net) at (records new.table)
