@@ -1,18 +1,21 @@
 -- What the nodes that leave a role do to the table. Assumes nothing.
-use Rattle.std.proofs.Common.{◌≡◌, ℕ, ◌<◌, ◌≤◌, Bool, true, false, not, length, sym, refl, ap, ◌∙◌, arith}
+use Rattle.std.proofs.Common.{◌≡◌, ℕ, ◌+◌, ◌<◌, ◌≤◌, Bool, true, false, not, List, length, sym, refl, ap, ◌∙◌, arith}
 use Rattle.std.proofs.lemmas.Bool.Decides.{nat_tests}
 use Rattle.std.proofs.lemmas.Bool.{eq-eqb}
 use Rattle.network.proofs.Counting.{count_below_one}
 use Rattle.network.specs.Meaning.{Meaning}
 use Rattle.measure.specs.Measures.{Operations, Laws}
 use Rattle.equivalence.specs.Totals.{total}
-use Rattle.equivalence.specs.Coarsest.{Between}
+use Rattle.equivalence.specs.Coarsest.{Between, roles}
 use Rattle.equivalence.specs.Splitting.{Even, Split, members}
 use Rattle.equivalence.proofs.Parting.{split_parted}
 use Rattle.equivalence.proofs.Refinement.{between_split}
 use Rattle.session.specs.Roles.{head_at, size_at}
 use Rattle.session.specs.Leaving.{apart, parted}
+use Rattle.session.specs.Steps.{InTwo}
 use Rattle.session.specs.Tables.{class_in, role_in}
+use Rattle.session.proofs.Keeping.{numbered}
+use Rattle.equivalence.specs.Vetted.{table_of}
 use Rattle.session.specs.declared.table.Table.{Table as RoleTable}
 
 module _ {V : Type 0} (o : Operations V) (laws : Laws o) (m : Meaning) (old : RoleTable) (fits : length old.role_of.items ≡ m.nodes) (r c : ℕ) (part : r < length old.roles.items) where
@@ -49,7 +52,7 @@ module _ {V : Type 0} (o : Operations V) (laws : Laws o) (m : Meaning) (old : Ro
     leaver : role x ≡ r
     leaver = grind (arith, nat_tests, flagged x (omega (arith, fits)), goes)
 
-    pub split_leaving : Split o m role (role_in new) r c fresh
+    split_leaving : Split o m role (role_in new) r c fresh
     split_leaving =
         let test : ℕ → Bool = λ k. not (o.same (total o m k toward) (total o m head toward)) in
         let inside : (k : ℕ) → k < m.nodes → k < length old.role_of.items = λ k l. omega (arith, fits) in
@@ -61,5 +64,22 @@ module _ {V : Type 0} (o : Operations V) (laws : Laws o) (m : Meaning) (old : Ro
         (λ k l e. refl)
         (λ k l. grind (arith, nat_tests, moved k (inside k l), flagged k l))
 
-  pub between_leaving : (new : RoleTable) → Split o m role (role_in new) r c (length old.roles.items) → new.colours ≡ old.colours → Between o m (class_in old) role → Between o m (class_in new) (role_in new)
-  between_leaving new split same between = rw same (between_split o laws m (class_in old) role (role_in new) r c (length old.roles.items) between split)
+    pub two_leaving : length new.role_of.items ≡ length old.role_of.items → length new.roles.items ≡ fresh + 1 → new.splits ≡ old.splits + 1 → new.colours ≡ old.colours → InTwo o m old new r c fresh
+    two_leaving still one_more count same =
+        record {
+          split = split_leaving;
+          next = numbered old m.nodes fits;
+          more = omega (arith, numbered old m.nodes fits, numbered new m.nodes (still ∙ fits), one_more);
+          count = count;
+          colours = same;
+        }
+
+module _ {V : Type 0} (o : Operations V) (laws : Laws o) (m : Meaning) (old new : RoleTable) (part toward fresh : ℕ) (two : InTwo o m old new part toward fresh) where
+  -- what an open session keeps
+  pub between_two : Between o m (class_in old) (role_in old) → Between o m (class_in new) (role_in new)
+  between_two between = rw two.colours (between_split o laws m (class_in old) (role_in old) (role_in new) part toward fresh between two.split)
+
+  pub counted_two : length new.role_of.items ≡ m.nodes → old.splits + roles (class_in old) m.nodes ≡ roles (role_in old) m.nodes → new.splits + roles (class_in new) m.nodes ≡ length new.roles.items
+  counted_two fits counted =
+      let same : roles (class_in new) m.nodes ≡ roles (class_in old) m.nodes = ap (λ (xs : List ℕ). roles (table_of xs) m.nodes) two.colours in
+      omega (arith, same, counted, two.count, two.more, numbered new m.nodes fits)

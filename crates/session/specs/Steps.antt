@@ -1,7 +1,8 @@
 -- What a step does to the table of roles. Assumes nothing.
 --
---   Stepped    stable where the table is regular, and then nothing is altered; otherwise one role is split in two, and the count is one more
-use Rattle.std.specs.Prelude.{◌≡◌, ◌+◌}
+--   InTwo      one role is split in two toward another; the new role has the next number, and the count is one more
+--   Stepped    stable where the table is regular, and then nothing is altered; otherwise one role is split in two
+use Rattle.std.specs.Prelude.{◌≡◌, ℕ, ◌+◌}
 use Rattle.network.specs.Meaning.{Meaning}
 use Rattle.measure.specs.Measures.{Operations}
 use Rattle.equivalence.specs.Regular.{Regular}
@@ -12,10 +13,14 @@ use Rattle.session.specs.declared.step.Step.{Step}
 use Rattle.session.specs.declared.step.Step.TheVariants.{Stable, Split}
 use Rattle.session.specs.declared.table.Table.{Table as RoleTable}
 
+pub record InTwo {V : Type 0} (o : Operations V) (m : Meaning) (old new : RoleTable) (part toward fresh : ℕ) : Type 0 where
+  pub split : splitting.Split o m (role_in old) (role_in new) part toward fresh
+  -- roles have the numbers below their number
+  pub next : fresh ≡ roles (role_in old) m.nodes
+  pub more : roles (role_in new) m.nodes ≡ roles (role_in old) m.nodes + 1
+  pub count : new.splits ≡ old.splits + 1
+  pub colours : new.colours ≡ old.colours
+
 abbrev pub Stepped : {V : Type 0} → Operations V → Meaning → RoleTable → RoleTable → Step → Type 0
 Stepped o m old new Stable = Regular o m (role_in old) × (new ≡ old)
-Stepped o m old new (Split part toward fresh) =
-    splitting.Split o m (role_in old) (role_in new) part toward fresh
-    × (fresh ≡ roles (role_in old) m.nodes)
-    × (roles (role_in new) m.nodes ≡ fresh + 1)
-    × (new.splits ≡ old.splits + 1)
+Stepped o m old new (Split part toward fresh) = InTwo o m old new part toward fresh

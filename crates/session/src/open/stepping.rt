@@ -1,12 +1,12 @@
 // The search for a split. Partition refinement by roles of the table itself, without the smaller-half rule: a measure has no subtraction.
 // A step reads each ordered pair of nodes a constant number of times.
-ghost use Rattle.std.specs.Prelude.{◌≡◌, ◌↔◌, ℕ, true, false, ◌+◌, ◌<◌, MatchOption};
+ghost use Rattle.std.specs.Prelude.{◌≡◌, ◌↔◌, ℕ, true, false, ◌<◌, MatchOption};
 ghost use Rattle.arrayvec.specs.ArrayVec.{array_vec_len};
 ghost use Rattle.equivalence.specs.Regular.{Balanced, Regular};
-ghost use Rattle.equivalence.specs.Splitting.{Even, Split, members};
+ghost use Rattle.equivalence.specs.Splitting.{Even, members};
 ghost use Rattle.session.specs.Roles.{head_at};
 ghost use Rattle.session.specs.Leaving.{flag, apart};
-ghost use Rattle.session.specs.Steps.{Stepped};
+ghost use Rattle.session.specs.Steps.{InTwo, Stepped};
 ghost use Rattle.session.specs.declared.step.Step.{Step};
 ghost use Rattle.session.specs.Tables.{role_in};
 
@@ -43,12 +43,9 @@ impl<N: Editable, M: Measure> Open<N, M> {
         requires toward { c < array_vec_len self.old.table.roles }
         ensures even { result ≡ false → Even M.Measure.ops (N.Readable.meaning self.old.network) (role_in self.old.table) r (members (role_in self.old.table) c) }
         ensures kept { result ≡ false → self.new ≡ self.old }
-        ensures split { result ≡ true → Split M.Measure.ops (N.Readable.meaning self.old.network) (role_in self.old.table) (role_in self.new.table) r c (array_vec_len self.old.table.roles) }
-        ensures count { result ≡ true → array_vec_len self.new.table.roles ≡ array_vec_len self.old.table.roles + 1 }
-        ensures splits { result ≡ true → self.new.table.splits ≡ self.old.table.splits + 1 }
+        ensures split { result ≡ true → InTwo M.Measure.ops (N.Readable.meaning self.old.network) self.old.table self.new.table r c (array_vec_len self.old.table.roles) }
         ensures network { self.new.network ≡ self.old.network }
         ensures measure { self.new.measure ≡ self.old.measure }
-        ensures colours { self.new.table.colours ≡ self.old.table.colours }
     {
         let leaving = self.leaving(r, c);
         match self.table.lowest(&leaving) {
@@ -65,11 +62,9 @@ impl<N: Editable, M: Measure> Open<N, M> {
         requires { c < array_vec_len self.old.table.roles }
         ensures search { MatchOption result
             (Balanced M.Measure.ops (N.Readable.meaning self.old.network) (role_in self.old.table) (members (role_in self.old.table) c) × (self.new ≡ self.old))
-            (λ part. Split M.Measure.ops (N.Readable.meaning self.old.network) (role_in self.old.table) (role_in self.new.table) part c (array_vec_len self.old.table.roles)
-            × (array_vec_len self.new.table.roles ≡ array_vec_len self.old.table.roles + 1) × (self.new.table.splits ≡ self.old.table.splits + 1)) }
+            (λ part. InTwo M.Measure.ops (N.Readable.meaning self.old.network) self.old.table self.new.table part c (array_vec_len self.old.table.roles)) }
         ensures network { self.new.network ≡ self.old.network }
         ensures measure { self.new.measure ≡ self.old.measure }
-        ensures colours { self.new.table.colours ≡ self.old.table.colours }
     {
         for r in 0..self.table.count() {
             // A single node has no other to differ from.

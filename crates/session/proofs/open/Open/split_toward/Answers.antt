@@ -9,9 +9,7 @@ use Rattle.session.proofs.open.Open.split_toward.Goals.{else-role-gt1-via-then-r
 
 pub returns-then-split_role-clause-search : goal.returns-then-split_role-clause-search
 returns-then-split_role-clause-search g c =
-    let done = c.if-split_role.true in
-    let same = c.loop-r.invariant.0 in
-    (rw same at (c.split_role.ensures.split done), rw same at (c.split_role.ensures.count done), rw same at (c.split_role.ensures.splits done))
+    rw c.loop-r.invariant.0 at (c.split_role.ensures.split c.if-split_role.true)
 
 pub loop-r-preserved : goal.loop-r-preserved
 loop-r-preserved g c =

@@ -1,28 +1,20 @@
-use Rattle.std.proofs.Common.{rules, ◌≡◌, ◌+◌, ◌∙◌, length, sym, ap, refl, arith}
-use Rattle.equivalence.specs.Coarsest.{roles}
+use Rattle.std.proofs.Common.{rules, length, sym, ap, refl, arith}
 use Rattle.equivalence.specs.Regular.{Regular}
 use Rattle.equivalence.proofs.Refinement.{split_irregular, regular_each}
 use Rattle.session.specs.Tables.{role_in}
-use Rattle.session.proofs.Keeping.{records}
 use Rattle.session.proofs.open.Open.step.Given.{Over}
 use Rattle.session.proofs.open.Open.step.Goals as goal
 
 pub returns-in-Some-clause-stable : goal.returns-in-Some-clause-stable
 returns-in-Some-clause-stable g c =
-    let split = rw c.loop-toward.invariant.0 at c.in-Some.ensures.search.0 in
-    (λ e. absurd (search rules), λ regular. absurd (split_irregular g.M.Measure.ops (g.N.Readable.meaning c.args.self.now.network) (role_in c.args.self.now.table) (role_in c.split_toward.new.self.table) c.in-Some.part c.loop-toward.toward (length c.args.self.now.table.roles.items) split regular))
+    let s = c.args.self.now in
+    let split = (rw c.loop-toward.invariant.0 at c.in-Some.ensures.search).split in (
+      λ e. absurd (search rules),
+      λ regular. absurd (split_irregular g.M.Measure.ops (g.N.Readable.meaning s.network) (role_in s.table) (role_in c.split_toward.new.self.table) c.in-Some.part c.loop-toward.toward (length s.table.roles.items) split regular),
+    )
 
 pub returns-in-Some-clause-stepped : goal.returns-in-Some-clause-stepped
-returns-in-Some-clause-stepped g c =
-    let s = c.args.self.now in
-    let m = g.N.Readable.meaning s.network in
-    let same = c.loop-toward.invariant.0 in
-    let new = c.split_toward.new.self in
-    let did = c.in-Some.ensures.search in
-    let fresh : c.count-fresh.result ≡ roles (role_in s.table) m.nodes = c.count-fresh.ensures ∙ (rw s.fits at (records s.table)) in
-    let nodes : length new.table.role_of.items ≡ m.nodes = new.fits ∙ ap (λ v. (g.N.Readable.meaning v).nodes) (c.in-Some.ensures.network ∙ ap (λ v. v.network) same) in
-    let more : roles (role_in new.table) m.nodes ≡ c.count-fresh.result + 1 = sym (rw nodes at (records new.table)) ∙ rw (same, sym c.count-fresh.ensures) at did.1 in
-    (rw (same, sym c.count-fresh.ensures) at did.0, fresh, more, rw same at did.2)
+returns-in-Some-clause-stepped g c = rw (c.count-fresh.ensures, sym c.loop-toward.invariant.0) c.in-Some.ensures.search
 
 regular : (g : Over) (c : goal.After-loop-toward g) → Regular g.M.Measure.ops (g.N.Readable.meaning c.args.self.now.network) (role_in c.args.self.now.table)
 regular g c =
