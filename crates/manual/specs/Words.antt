@@ -1,7 +1,8 @@
--- What the page says of a table and of a put. Assumes nothing.
-use Rattle.std.specs.Prelude.{ℕ, List, ◌++◌, Some, None, Ok, Err, codes, decimal, Option, Result}
+-- What the page says of a table, of a put and of a role. Assumes nothing.
+use Rattle.std.specs.Prelude.{ℕ, List, [], ◌++◌, Some, None, Ok, Err, codes, decimal, Option, Result, ◌==◌, if◌then◌else◌}
 use Rattle.network.specs.Faults.{number}
 use Rattle.network.specs.declared.faults.Fault.{Fault}
+use Rattle.session.specs.declared.role.Role.{Role}
 
 -- why a table is not regular: nodes x and y, and the role of node z
 abbrev pub reason_words : ℕ → ℕ → ℕ → List ℕ
@@ -20,3 +21,11 @@ refusal_words n = codes "refused with " ++ decimal n
 abbrev pub outcome_words : Result (Unit {0}) Fault → List ℕ
 outcome_words (Ok _) = codes "taken"
 outcome_words (Err f) = refusal_words (number f)
+
+-- n of what the noun names, with an s unless n is 1
+abbrev pub count_words : ℕ → List ℕ → List ℕ
+count_words n noun = decimal n ++ (codes " " ++ (noun ++ (if n == 1 then [] else codes "s")))
+
+-- role r, with its head and its size
+abbrev pub role_words : ℕ → Role → List ℕ
+role_words r role = decimal r ++ (codes " (head " ++ (decimal role.head ++ (codes ", size " ++ (decimal role.size ++ codes ")"))))

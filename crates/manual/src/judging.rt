@@ -1,11 +1,13 @@
 // The vet's verdict on a table, under a measure.
+ghost use Rattle.std.specs.Prelude.{◌≡◌, Ok, None};
 ghost use Rattle.equivalence.specs.Vetted.{Vetted, YesExactly};
 ghost use Rattle.manual.specs.Judging.{answer_of};
 
 use super::words::Verdict;
 use equivalence::classical::Classical;
 use equivalence::faults::Fault;
-use network::interface::Readable;
+use network::interface::{Editable, Readable};
+use session::settled::Settled;
 
 pub(crate) fn judged<N: Readable, M: Classical>(
     network: &N,
@@ -16,4 +18,14 @@ pub(crate) fn judged<N: Readable, M: Classical>(
     ensures classical { YesExactly (N.meaning network.now) table.now (answer_of result) (M.notion (N.meaning network.now)) }
 {
     measure.vet(network, table).map(Verdict)
+}
+
+// The verdict on the table that a session has settled on, which is yes.
+pub(crate) fn confirmed<N: Editable, M: Classical>(
+    settled: &Settled<N, M>,
+    measure: &M,
+) -> Result<Verdict, Fault>
+    ensures { answer_of result ≡ Ok None }
+{
+    judged(settled.network(), measure, settled.table())
 }

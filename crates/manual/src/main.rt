@@ -1,4 +1,5 @@
-// Settles a dispute over a manual page: which of the role tables that the page prints are regular, and under which measure.
+// Settles a dispute over a manual page: which of the role tables that the page prints are regular, and under which measure;
+// and which roles each of its networks settles into.
 
 #![tactic(auto)]
 
@@ -13,21 +14,36 @@ mod words;
 
 use drawing::{drawn, drawn_sides};
 use equivalence::classical::Classical;
-use judging::judged;
+use judging::{confirmed, judged};
 use measure::bundles::Bundles;
 use measure::kinds::Kinds;
 use measure::tally::Tally;
 use network::interface::{Editable, Readable};
 use network::no_loops::NoLoops;
 use network::turned::Turned;
+use session::open::Open;
 use std::{fmt, io};
 use trouble::Trouble;
-use words::{Outcome, Roles, Ties};
+use words::{Outcome, Roles, Settlement, Ties, Verdict};
 
 // Prints the nodes and ties of a network.
 fn show<N: Readable>(rt: &impl Print, name: &str, network: &N) -> io::Result<()> {
     let n = network.nodes();
     println!(rt; "The {name} network has {n} nodes: {}.", Ties(network))
+}
+
+// Prints a verdict on a table, under a measure.
+fn pronounce<M: fmt::Display>(
+    rt: &impl Print,
+    name: &str,
+    measure: &M,
+    table: &[u8],
+    verdict: Verdict,
+) -> io::Result<()> {
+    println!(rt;
+        "  Under {measure}, {name} roles {} {verdict}",
+        Roles(table)
+    )
 }
 
 // Vets a table under a measure, and prints what comes of it.
@@ -39,10 +55,7 @@ fn judge<N: Readable, M: Classical + fmt::Display>(
     table: &[u8],
 ) -> Result<(), Trouble> {
     let verdict = judged(network, measure, table)?;
-    println!(rt;
-        "  Under {measure}, {name} roles {} {verdict}",
-        Roles(table)
-    )?;
+    pronounce(rt, name, measure, table, verdict)?;
     Ok(())
 }
 
@@ -53,9 +66,43 @@ fn compare<N: Readable>(rt: &impl Print, network: &N, table: &[u8]) -> Result<()
     judge(rt, network, "the", &Tally, table)
 }
 
-// Puts a tie, and prints what comes of it.
-fn attempt<N: Editable>(rt: &impl Print, network: &mut N, i: usize, j: usize) -> io::Result<()> {
-    let outcome = Outcome(network.put(i, j, 1));
+// Settles a session, prints its roles and the vet's verdict on them, and opens it again.
+fn settle<N: Editable + Drop, M: Classical + Drop + fmt::Display>(
+    rt: &impl Print,
+    session: Open<N, M>,
+    measure: &M,
+) -> Result<Open<N, M>, Trouble> {
+    let settled = session.settle();
+    println!(rt;
+        "  Under {measure}, it settles into {}.",
+        Settlement(&settled)
+    )?;
+    let verdict = confirmed(&settled, measure)?;
+    pronounce(rt, "the settled", measure, settled.table(), verdict)?;
+    Ok(settled.reopen())
+}
+
+// Settles a network under a measure, and gives it back.
+fn settle_under<N: Editable + Drop, M: Classical + Copy + fmt::Display>(
+    rt: &impl Print,
+    network: N,
+    measure: M,
+) -> Result<N, Trouble> {
+    let session = settle(rt, Open::new(network, measure), &measure)?;
+    let (network, _) = session.into_parts();
+    Ok(network)
+}
+
+// One network settled under each measure.
+fn settle_under_each<N: Editable + Drop>(rt: &impl Print, network: N) -> Result<(), Trouble> {
+    let network = settle_under(rt, network, Kinds)?;
+    let network = settle_under(rt, network, Bundles)?;
+    settle_under(rt, network, Tally)?;
+    Ok(())
+}
+
+// Prints what comes of putting a tie.
+fn tell(rt: &impl Print, i: usize, j: usize, outcome: Outcome) -> io::Result<()> {
     println!(rt; "  A tie from {i} to {j} is {outcome}.")
 }
 
@@ -65,11 +112,19 @@ fn tables(rt: &(impl Print + AllocGlobal)) -> Result<(), Trouble> {
     let first = drawn(3, vec![in heap; 0; 9]?, &[(0, 1), (1, 2)])?;
     show(rt, "first", &first)?;
     judge(rt, &first, "the draft's", &Kinds, &[0, 1, 2])?;
+    settle_under(rt, first, Kinds)?;
 
     let second = drawn(3, vec![in heap; 0; 9]?, &[(0, 1)])?;
     show(rt, "second", &second)?;
     judge(rt, &second, "the draft's", &Kinds, &[0, 1, 1])?;
-    judge(rt, &second, "the corrected", &Kinds, &[0, 1, 2])
+    judge(rt, &second, "the corrected", &Kinds, &[0, 1, 2])?;
+
+    // A put alters what the second settles into.
+    let mut session = settle(rt, Open::new(second, Kinds), &Kinds)?;
+    tell(rt, 2, 1, Outcome(session.put(2, 1, 1)))?;
+    show(rt, "second", session.network())?;
+    settle(rt, session, &Kinds)?;
+    Ok(())
 }
 
 // Where the measures differ.
@@ -78,11 +133,13 @@ fn contrast(rt: &(impl Print + AllocGlobal)) -> Result<(), Trouble> {
     let teams = drawn(5, vec![in heap; 0; 25]?, &[(0, 1), (0, 2), (3, 4)])?;
     show(rt, "teams", &teams)?;
     compare(rt, &teams, &[0, 1, 1, 0, 1])?;
+    settle_under_each(rt, teams)?;
 
     let ties = [(0, 1), (1, 2), (2, 0), (3, 4), (4, 3)];
     let circles = drawn(5, vec![in heap; 0; 25]?, &ties)?;
     show(rt, "circles", &circles)?;
-    compare(rt, &circles, &[0, 0, 0, 0, 0])
+    compare(rt, &circles, &[0, 0, 0, 0, 0])?;
+    settle_under_each(rt, circles)
 }
 
 // Students 0 to 2 and exams 3 and 4, from both sides; and a network that takes no loops.
@@ -91,16 +148,19 @@ fn layers(rt: &(impl Print + AllocGlobal)) -> Result<(), Trouble> {
     let exams = drawn_sides(3, 2, vec![in heap; 0; 6]?, &[(0, 3), (1, 3)])?;
     show(rt, "students and exams", &exams)?;
     judge(rt, &exams, "the", &Kinds, &[0, 0, 2, 1, 2])?;
+    let exams = settle_under(rt, exams, Kinds)?;
 
     let turned = Turned(exams);
     show(rt, "turned", &turned)?;
     judge(rt, &turned, "the", &Kinds, &[0, 0, 2, 1, 2])?;
+    settle_under(rt, turned, Kinds)?;
 
     let mut bare = NoLoops(drawn(2, vec![in heap; 0; 4]?, &[(0, 1), (1, 1)])?);
     show(rt, "no-loops", &bare)?;
-    attempt(rt, &mut bare, 0, 0)?;
-    attempt(rt, &mut bare, 1, 0)?;
+    tell(rt, 0, 0, Outcome(bare.put(0, 0, 1)))?;
+    tell(rt, 1, 0, Outcome(bare.put(1, 0, 1)))?;
     show(rt, "no-loops", &bare)?;
+    settle_under(rt, bare, Kinds)?;
     Ok(())
 }
 

@@ -1,10 +1,13 @@
 // What the page says.
 ghost use Rattle.std.specs.Prelude.{Decides, Some};
 ghost use Rattle.manual.specs.Drawing.{Isolated};
-ghost use Rattle.manual.specs.Words.{verdict_words, outcome_words};
+ghost use Rattle.manual.specs.Words.{verdict_words, outcome_words, count_words, role_words};
 
+use measure::interface::Measure;
 use network::faults::Fault;
-use network::interface::Readable;
+use network::interface::{Editable, Readable};
+use session::role::Role;
+use session::settled::Settled;
 use std::fmt;
 
 // What the vet's answer says of a table.
@@ -85,6 +88,53 @@ impl<N: Readable> fmt::Display for Ties<'_, N> {
                 write!(f, "{separator}{i} is tied to {j}")?;
                 separator = ", ";
             }
+        }
+        Ok(())
+    }
+}
+
+// How many there are of what the noun names.
+#[derive(Clone, Copy)]
+struct Count<'a>(usize, &'a str);
+
+impl fmt::Display for Count<'_> {
+    ghost output = { λ c. Some (count_words c.0 c.1.now) };
+
+    fn fmt<W: fmt::Write>(&self, f: &mut fmt::Formatter<W>) -> fmt::Result {
+        let plural = if self.0 == 1 { "" } else { "s" };
+        write!(f, "{} {}{plural}", self.0, self.1)
+    }
+}
+
+// A role with its number.
+#[derive(Clone, Copy)]
+struct NumberedRole(usize, Role);
+
+impl fmt::Display for NumberedRole {
+    ghost output = { λ r. Some (role_words r.0 r.1) };
+
+    fn fmt<W: fmt::Write>(&self, f: &mut fmt::Formatter<W>) -> fmt::Result {
+        let Role { head, size } = self.1;
+        write!(f, "{} (head {head}, size {size})", self.0)
+    }
+}
+
+// What a session has settled into: how many roles after how many splits, and each role.
+#[derive(Drop)]
+pub(crate) struct Settlement<'a, N: Editable, M: Measure>(pub(crate) &'a Settled<N, M>);
+
+impl<N: Editable, M: Measure> fmt::Display for Settlement<'_, N, M> {
+    fn fmt<W: fmt::Write>(&self, f: &mut fmt::Formatter<W>) -> fmt::Result {
+        let settled = self.0;
+        let roles = Count(settled.roles(), "role");
+        let splits = Count(settled.splits(), "split");
+        write!(f, "{roles} after {splits}: ")?;
+        let mut separator = "";
+        for r in 0..settled.roles() {
+            // No fault: r is a role's number.
+            let role = NumberedRole(r, settled.role(r).unwrap());
+            write!(f, "{separator}{role}")?;
+            separator = ", ";
         }
         Ok(())
     }
