@@ -14,3 +14,5 @@ pub mod step;
 pub mod open;
 // The coarsest regular table.
 pub mod settled;
+#[cfg(test)]
+mod tests;

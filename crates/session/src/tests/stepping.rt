@@ -1,0 +1,86 @@
+// A step splits one role in two, exactly where the vet says that the table is not regular.
+use super::super::open::Open;
+use super::super::step::Step;
+use super::{CYCLES, Tells, chain, matrix, shows, tied};
+use equivalence::totals::total_toward;
+use equivalence::vetting::vet;
+use measure::bundles::Bundles;
+use measure::interface::Measure;
+use measure::kinds::Kinds;
+use network::interface::Editable;
+use std::alloc::Global;
+use std::process::Abort;
+use std::test::Fail;
+
+// How many nodes of the table have role r.
+fn size(table: &[u8], r: usize) -> usize {
+    table.iter().filter(|&&s| usize::from(s) == r).count()
+}
+
+// The step that the session makes, which fits the vet and the tables before and after it.
+fn steps<N: Editable + Drop, M: Measure + Drop>(
+    rt: &impl Abort,
+    heap: Global,
+    open: &mut Open<N, M>,
+    measure: &M,
+) -> Result<Step, Fail> {
+    let old = open.table().to_vec(heap)?;
+    let counts = open.counts();
+    let regular = vet(open.network(), measure, &old) == Ok(None);
+    let step = open.step();
+    match step {
+        Step::Stable => {
+            assert!(rt; regular);
+            assert!(rt; open.table() == old.as_slice());
+            assert_eq!(rt; open.counts(), counts);
+        }
+        Step::Split {
+            part,
+            toward,
+            fresh,
+        } => {
+            assert!(rt; !regular);
+            assert_eq!(rt; fresh, counts.0);
+            assert!(rt; toward < fresh && part < fresh && fresh < 128);
+            assert_eq!(rt; open.counts(), (fresh + 1, counts.1.saturating_add(1)));
+            let stayed = open.role(part).expect(rt, "a role");
+            let left = open.role(fresh).expect(rt, "a role");
+            assert_eq!(rt; stayed.size.saturating_add(left.size), size(&old, part));
+            // The two differ in the total that is told.
+            let toward = toward as u8;
+            assert!(rt;
+                !measure.same(
+                    total_toward(open.network(), measure, stayed.head, &old, toward),
+                    total_toward(open.network(), measure, left.head, &old, toward),
+                )
+            );
+        }
+    }
+    Ok(step)
+}
+
+#[test]
+fn a_chain_is_split_step_by_step(rt: HostRuntime) -> Result<(), Fail> {
+    let mut open = chain(&rt, rt.alloc(), 3)?;
+    shows(&rt, &open, 0, &[0, 0, 0]);
+    assert!(rt; steps(&rt, rt.alloc(), &mut open, &Kinds)? != Step::Stable);
+    shows(&rt, &open, 1, &[0, 1, 1]);
+    assert!(rt; steps(&rt, rt.alloc(), &mut open, &Kinds)? != Step::Stable);
+    shows(&rt, &open, 2, &[0, 1, 2]);
+    assert_eq!(rt; steps(&rt, rt.alloc(), &mut open, &Kinds)?, Step::Stable);
+    Ok(())
+}
+
+#[test]
+fn the_mutual_tie_is_split_off_under_bundles(rt: HostRuntime) -> Result<(), Fail> {
+    let mut open = tied(&rt, matrix(rt.alloc(), 5)?, Bundles, &CYCLES);
+    let split = Step::Split {
+        part: 0,
+        toward: 0,
+        fresh: 1,
+    };
+    assert_eq!(rt; steps(&rt, rt.alloc(), &mut open, &Bundles)?, split);
+    shows(&rt, &open, 1, &[0, 0, 0, 3, 3]);
+    assert_eq!(rt; steps(&rt, rt.alloc(), &mut open, &Bundles)?, Step::Stable);
+    Ok(())
+}
