@@ -1,4 +1,4 @@
--- Each change of the table keeps what its records say. What founds, moves or opens a role is for steps to come. Assumes nothing.
+-- Each change of the table keeps what its records say. Assumes nothing.
 use Rattle.std.proofs.Common.{◌≡◌, ℕ, ◌+◌, ◌-◌, ◌<◌, ◌≤◌, cond, eqb, sym, refl, ap, ◌∙◌, inl, inr, add-one, arith}
 use Rattle.std.proofs.lemmas.Bool.{cases_eq, cases_lt, eq-eqb, ne_eqb}
 use Rattle.network.specs.Meaning.{count_below}
@@ -187,8 +187,8 @@ module _ (n : ℕ) (role role' : Table) (count : ℕ) (old new : ℕ → Role) (
         known past (omega (arith, ap (λ v. v.size) (shrinks.off r (λ d. other (sym d))), kept.sized r known, moved_in role role' x r takes n node other)) grows
 
     -- r is the next role
-    pub kept_opened : r ≡ count → count < n → Puts mid new r (record { head = x; size = 1 }) → RecordedAt n role' (count + 1) new
-    kept_opened fresh room opens =
+    pub kept_led : r ≡ count → count < n → Puts mid new r (record { head = x; size = 1 }) → RecordedAt n role' (count + 1) new
+    kept_led fresh room opens =
         let none = unused n role role' count old mid new kept in
         kept_fresh n role role' count old mid new kept x r n takes apart_here node kept.few (omega arith) (λ y l ne. l) mid_head mid_sized
         fresh room (omega (arith, ap (λ t. count_below (members role t) n) fresh, none, moved_in role role' x r takes n node other)) opens

@@ -9,7 +9,7 @@ use Rattle.arrayvec.proofs.ArrayVecLemmas.{items-with_items}
 use Rattle.equivalence.specs.Vetted.{table_of}
 use Rattle.session.specs.Roles.{record_at, head_at, size_at, Kept}
 use Rattle.session.specs.declared.role.Role.{Role}
-use Rattle.session.proofs.Records.{Puts, grown, shrunk, kept_joined, kept_founded, kept_moved, kept_opened}
+use Rattle.session.proofs.Records.{Puts, grown, shrunk, kept_joined, kept_founded, kept_moved, kept_led}
 use Rattle.session.proofs.Counted.{count_short, no_head}
 
 module _ {V : Type 0} (xs : List V) (v d : V) where
@@ -73,8 +73,8 @@ module _ (role_of : List ℕ) (roles : List Role) (x : ℕ) (kept : Kept role_of
   room = count_short (length role_of) (table_of role_of) (length roles) (head_at roles) kept.headed x node (no_head (length role_of) (table_of role_of) (length roles) (head_at roles) kept.headed x later)
 
   -- for the next role
-  pub opened : Kept (set role_of x (length roles)) (left ++ record { head = x; size = 1 } ∷ [])
-  opened =
+  pub led : Kept (set role_of x (length roles)) (left ++ record { head = x; size = 1 } ∷ [])
+  led =
       let after : Role = record { head = x; size = 1 } in
       rw (length-set role_of x (length roles), length_push left after, length-set roles part (shrunk (record_at roles part)))
-      (kept_opened (length role_of) _ _ _ (record_at roles) _ kept x (length roles) node later (λ e. omega (arith, kept.ranged x node)) (puts_set role_of (length roles) 0 x node) (record_at left) shrinks refl room (rw (length-set roles part (shrunk (record_at roles part))) at (puts_pushed left after (record { head = 0; size = 0 }))))
+      (kept_led (length role_of) _ _ _ (record_at roles) _ kept x (length roles) node later (λ e. omega (arith, kept.ranged x node)) (puts_set role_of (length roles) 0 x node) (record_at left) shrinks refl room (rw (length-set roles part (shrunk (record_at roles part))) at (puts_pushed left after (record { head = 0; size = 0 }))))

@@ -9,8 +9,8 @@ use super::super::role::Role;
 use super::Table;
 
 impl Table {
-    // Node x, above the head of its role, leaves it and is the next role.
-    fn open(&mut self, x: usize)
+    // Node x, above the head of its role, leaves it and leads the next role.
+    fn lead(&mut self, x: usize)
         requires node { x < length self.old.role_of.items }
         requires later { head_at self.old.roles.items (table_of self.old.role_of.items x) < x }
         ensures table { self.new.role_of.items ≡ slice_set self.old.role_of.items x (array_vec_len self.old.roles) }
@@ -67,7 +67,7 @@ impl Table {
         ensures splits { self.new.splits ≡ self.old.splits + 1 }
     {
         let next = self.roles.len();
-        self.open(x);
+        self.lead(x);
         for y in x + 1..self.role_of.len() {
             if leaves[y] {
                 self.follow(y, next);

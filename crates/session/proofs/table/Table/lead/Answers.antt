@@ -2,8 +2,8 @@ use Rattle.std.proofs.Common.{◌≡◌, ◌∙◌, ℕ, List, get_or, length, l
 use Rattle.equivalence.specs.Vetted.{table_of}
 use Rattle.session.specs.Roles.{record_at}
 use Rattle.session.proofs.Records.{shrunk}
-use Rattle.session.proofs.Writes.{items-written, record-written, part_pos, opened, room}
-use Rattle.session.proofs.table.Table.open.Goals as goal
+use Rattle.session.proofs.Writes.{items-written, record-written, part_pos, led, room}
+use Rattle.session.proofs.table.Table.lead.Goals as goal
 
 pub shrink-requires : goal.shrink-requires
 shrink-requires c =
@@ -24,4 +24,4 @@ invariant_of-self c =
     let x = c.args.x in
     let at : c.from-part.result ≡ table_of m.role_of.items x = c.from-part.ensures ∙ ap (λ (xs : List ℕ). get_or xs x 0) c.deref.ensures.0 in
     let first = record-written m.roles c.deref_mut.result.now c.from-part.result shrunk c.shrink.new.self c.deref_mut.ensures.value c.shrink.ensures in
-    record { kept = rw (items-written m.role_of c.deref_mut-2.result.now x c.len-next.result c.deref_mut-2.ensures.value, c.push.ensures.items, first, at, c.len-next.ensures.value) (opened m.role_of.items m.roles.items x m.kept c.requires.node c.requires.later) }
+    record { kept = rw (items-written m.role_of c.deref_mut-2.result.now x c.len-next.result c.deref_mut-2.ensures.value, c.push.ensures.items, first, at, c.len-next.ensures.value) (led m.role_of.items m.roles.items x m.kept c.requires.node c.requires.later) }
