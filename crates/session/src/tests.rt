@@ -6,7 +6,6 @@ use super::settled::Settled;
 use equivalence::vetting::vet;
 use measure::interface::Measure;
 use measure::kinds::Kinds;
-use network::faults::Layer;
 use network::interface::Editable;
 use network::matrix::Matrix;
 use std::alloc::Global;
@@ -28,7 +27,7 @@ const CYCLES: [(usize, usize); 5] = [(0, 1), (1, 2), (2, 0), (3, 4), (4, 3)];
 
 // A matrix of n nodes without ties.
 fn matrix(heap: Global, n: usize) -> Result<Matrix, Fail> {
-    Ok(Matrix::new(n, vec![in heap; 0; 16384]?))
+    Ok(Matrix::new(n, vec![in heap; 0; n.saturating_mul(n)]?))
 }
 
 // A session with byte 1 for each tie.
@@ -86,8 +85,7 @@ impl<N: Editable, M: Measure> Tells for Settled<N, M> {
 // So many roles were split, and heads[x] is the lowest node of the role of node x.
 fn shows<T: Tells>(rt: &impl Abort, session: &T, splits: usize, heads: &[usize]) {
     let mut roles = 0usize;
-    for x in 0..heads.len() {
-        let head = heads[x];
+    for (x, &head) in heads.iter().enumerate() {
         let size = heads.iter().filter(|&&h| h == head).count();
         assert_eq!(rt; session.role_at(x), Ok(Role { head, size }), "at node {x}");
         if head == x {
@@ -110,9 +108,4 @@ fn settles<N: Editable + Drop, M: Measure + Drop>(
     shows(rt, &settled, splits, heads);
     assert_eq!(rt; vet(settled.network(), measure, settled.table()), Ok(None));
     settled.reopen()
-}
-
-// The layer and the number of a refusal.
-fn told(answer: Result<(), network::faults::Fault>) -> Result<(), (Layer, u8)> {
-    answer.map_err(|fault| (fault.layer(), fault.number()))
 }

@@ -7,10 +7,10 @@ use measure::bundles::Bundles;
 use measure::kinds::Kinds;
 use measure::tally::Tally;
 use network::faults;
-use network::matrix::Matrix;
 use network::no_loops::NoLoops;
 use network::turned::Turned;
 use network::two_mode::TwoMode;
+use std::array;
 use std::test::Fail;
 
 #[test]
@@ -31,10 +31,7 @@ fn a_node_tied_to_itself_is_a_role(rt: HostRuntime) -> Result<(), Fail> {
 
 #[test]
 fn each_node_of_a_chain_is_a_role(rt: HostRuntime) -> Result<(), Fail> {
-    let mut heads = [0; 128];
-    for x in 0..128 {
-        heads[x] = x;
-    }
+    let heads: [usize; 128] = array::from_fn(|x| x);
     for n in [3, 9, 128] {
         let open = settles(&rt, chain(&rt, rt.alloc(), n)?, &Kinds, n - 1, &heads[..n]);
         assert_eq!(rt; open.roles(), n);
@@ -48,6 +45,8 @@ fn each_node_of_a_chain_is_a_role(rt: HostRuntime) -> Result<(), Fail> {
 fn tally_tells_teams_apart_by_their_sizes(rt: HostRuntime) -> Result<(), Fail> {
     let open = tied(&rt, matrix(rt.alloc(), 5)?, Kinds, &TEAMS);
     settles(&rt, open, &Kinds, 1, &[0, 1, 1, 0, 1]);
+    let open = tied(&rt, matrix(rt.alloc(), 5)?, Bundles, &TEAMS);
+    settles(&rt, open, &Bundles, 1, &[0, 1, 1, 0, 1]);
     let open = tied(&rt, matrix(rt.alloc(), 5)?, Tally, &TEAMS);
     settles(&rt, open, &Tally, 3, &[0, 1, 1, 3, 4]);
     Ok(())
@@ -79,7 +78,7 @@ fn sides_and_layers_settle(rt: HostRuntime) -> Result<(), Fail> {
 
 #[test]
 fn the_network_without_nodes_has_no_roles(rt: HostRuntime) -> Result<(), Fail> {
-    let mut open = Open::new(Matrix::new(0, vec![in rt.alloc(); 0; 0]?), Kinds);
+    let mut open = Open::new(matrix(rt.alloc(), 0)?, Kinds);
     assert_eq!(rt; open.put(0, 0, 1), Err(faults::Fault::Node));
     assert_eq!(rt; open.colour(0, 1), Err(Fault::Node));
     assert_eq!(rt; open.role(0), Err(Fault::Role));
