@@ -61,12 +61,13 @@ fn steps<N: Editable + Drop, M: Measure + Drop>(
 
 #[test]
 fn a_chain_is_split_step_by_step(rt: HostRuntime) -> Result<(), Fail> {
-    let mut open = chain(&rt, rt.alloc(), 3)?;
-    shows(&rt, &open, 0, &[0, 0, 0]);
-    assert!(rt; steps(&rt, rt.alloc(), &mut open, &Kinds)? != Step::Stable);
-    shows(&rt, &open, 1, &[0, 1, 1]);
-    assert!(rt; steps(&rt, rt.alloc(), &mut open, &Kinds)? != Step::Stable);
-    shows(&rt, &open, 2, &[0, 1, 2]);
+    let mut open = chain(&rt, rt.alloc(), 4)?;
+    let tables = [[0, 0, 0, 0], [0, 1, 1, 1], [0, 1, 2, 2]];
+    for (splits, heads) in tables.iter().enumerate() {
+        shows(&rt, &open, splits, heads);
+        assert!(rt; steps(&rt, rt.alloc(), &mut open, &Kinds)? != Step::Stable);
+    }
+    shows(&rt, &open, 3, &[0, 1, 2, 3]);
     assert_eq!(rt; steps(&rt, rt.alloc(), &mut open, &Kinds)?, Step::Stable);
     Ok(())
 }
