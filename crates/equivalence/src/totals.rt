@@ -6,6 +6,13 @@ ghost use Rattle.equivalence.specs.Totals.{total, labelled};
 use measure::interface::Measure;
 use network::interface::Readable;
 
+// What y brings to a total of x: the byte that goes out to y, and the byte that comes in.
+fn brought<N: Readable, M: Measure>(network: &N, measure: &M, x: usize, y: usize) -> M::Value
+    ensures { let m = N.Readable.meaning network.now in result ≡ M.Measure.ops.weigh (m.tie x y) (m.tie y x) }
+{
+    measure.weigh(network.tie(x, y), network.tie(y, x))
+}
+
 // The total of x toward the nodes whose byte among the labels is `label`. One pass, and one weigh for each such node.
 pub fn total_toward<N: Readable, M: Measure>(
     network: &N,
@@ -18,7 +25,7 @@ pub fn total_toward<N: Readable, M: Measure>(
 {
     (0..network.nodes())
         .filter(|&y| labels.get(y) == Some(&label))
-        .map(|y| measure.weigh(network.tie(x, y), network.tie(y, x)))
+        .map(|y| brought(network, measure, x, y))
         .fold(measure.none(), |sum, value| measure.join(sum, value))
 }
 
@@ -35,6 +42,6 @@ pub fn total_over<N: Readable, M: Measure>(
     nodes
         .iter()
         .map(|&y| usize::from(y))
-        .map(|y| measure.weigh(network.tie(x, y), network.tie(y, x)))
+        .map(|y| brought(network, measure, x, y))
         .fold(measure.none(), |sum, value| measure.join(sum, value))
 }
