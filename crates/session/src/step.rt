@@ -3,7 +3,7 @@
 pub enum Step {
     // The table is regular.
     Stable,
-    // Those of role `part` whose total toward role `toward` is not that of its head are now role `fresh`.
+    // Those that stay in role `part` have one total toward role `toward`; the others, which have it not, are now role `fresh`.
     Split {
         part: usize,
         toward: usize,
