@@ -8,17 +8,16 @@ use Rattle.equivalence.specs.Vetted.{table_of}
 use Rattle.equivalence.specs.Regular.{Table}
 use Rattle.equivalence.specs.Coarsest.{Between, roles}
 use Rattle.equivalence.proofs.Refinement.{roles_le, between_start}
-use Rattle.session.specs.Roles.{head_at, record_at}
+use Rattle.session.specs.Roles.{Described, record_at}
 use Rattle.session.specs.Sessions.{Starting}
 use Rattle.session.specs.Tables.{class_in, role_in}
-use Rattle.session.specs.Tellings.{Described}
 use Rattle.session.specs.declared.table.Table.{Table as RoleTable}
 use Rattle.session.proofs.Counted.{counted}
 
 module _ (t : RoleTable) where
   -- as many records as roles
   pub records : length t.roles.items ≡ roles (role_in t) (length t.role_of.items)
-  records = counted (length t.role_of.items) (role_in t) (length t.roles.items) (head_at t.roles.items) t.kept.ranged t.kept.headed t.kept.lowest
+  records = counted (length t.role_of.items) (role_in t) (length t.roles.items) (record_at t.roles.items) t.kept.described t.kept.ranged
 
   module _ (n : ℕ) (fits : length t.role_of.items ≡ n) where
     pub numbered : length t.roles.items ≡ roles (role_in t) n
@@ -28,14 +27,7 @@ module _ (t : RoleTable) where
     role_lt x l = omega (arith, numbered, t.kept.ranged x (omega (arith, fits)))
 
     pub described : (r : ℕ) → r < length t.roles.items → Described n (role_in t) r (record_at t.roles.items r)
-    described r known =
-        let head = t.kept.headed r known in
-        record {
-          node = omega (arith, fits, head.0);
-          mate = head.1;
-          lowest = λ k l. t.kept.lowest r k known l;
-          size = rw fits at (t.kept.sized r known);
-        }
+    described r known = rw fits at (t.kept.described r known)
 
   -- at the starting classes, no role was split
   pub counted_start : (n : ℕ) (classes : Table) → length t.role_of.items ≡ n → Starting n classes (role_in t) → t.splits ≡ 0 → t.splits + roles classes n ≡ length t.roles.items

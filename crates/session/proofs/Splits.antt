@@ -10,7 +10,7 @@ use Rattle.equivalence.specs.Coarsest.{Between, roles}
 use Rattle.equivalence.specs.Splitting.{Even, Split, members}
 use Rattle.equivalence.proofs.Parting.{split_parted}
 use Rattle.equivalence.proofs.Refinement.{between_split}
-use Rattle.session.specs.Roles.{head_at, size_at}
+use Rattle.session.specs.Roles.{head_at, record_at}
 use Rattle.session.specs.Leaving.{apart, parted}
 use Rattle.session.specs.Steps.{InTwo}
 use Rattle.session.specs.Tables.{class_in, role_in}
@@ -36,10 +36,10 @@ module _ {V : Type 0} (o : Operations V) (laws : Laws o) (m : Meaning) (old : Ro
       told x hx ex ∙ sym (told y hy ey)
 
   -- a single node has no other to differ from
-  pub even_single : size_at old.roles.items r ≤ 1 → Even o m role r toward
+  pub even_single : (record_at old.roles.items r).size ≤ 1 → Even o m role r toward
   even_single single x y hx hy ex ey =
       ap (λ k. total o m k toward)
-      (count_below_one (members role r) (length old.role_of.items) x y (omega (arith, fits)) (omega (arith, fits)) (eq-eqb (role x) r ex) (eq-eqb (role y) r ey) (omega (arith, old.kept.sized r part)))
+      (count_below_one (members role r) (length old.role_of.items) x y (omega (arith, fits)) (omega (arith, fits)) (eq-eqb (role x) r ex) (eq-eqb (role y) r ey) (omega (arith, (old.kept.described r part).size)))
 
   module _ (known : c < length old.roles.items) (new : RoleTable) (leaves : ℕ → Bool) (x : ℕ)
       (flagged : (k : ℕ) → k < m.nodes → leaves k ≡ apart o m role r head toward k)
@@ -57,9 +57,9 @@ module _ {V : Type 0} (o : Operations V) (laws : Laws o) (m : Meaning) (old : Ro
         let test : ℕ → Bool = λ k. not (o.same (total o m k toward) (total o m head toward)) in
         let inside : (k : ℕ) → k < m.nodes → k < length old.role_of.items = λ k l. omega (arith, fits) in
         split_parted o laws m role (role_in new) r c fresh head x test
-        (head_at old.roles.items c, omega (arith, fits, (old.kept.headed c known).0), (old.kept.headed c known).1)
+        (head_at old.roles.items c, omega (arith, fits, (old.kept.described c known).node), (old.kept.described c known).mate)
         (λ k l e. omega (arith, old.kept.ranged k (inside k l)))
-        (omega (arith, fits, (old.kept.headed r part).0)) (old.kept.headed r part).1
+        (omega (arith, fits, (old.kept.described r part).node)) (old.kept.described r part).mate
         (omega (arith, fits)) leaver (grind (arith, nat_tests, flagged x (omega (arith, fits)), goes))
         (λ k l e. refl)
         (λ k l. grind (arith, nat_tests, moved k (inside k l), flagged k l))

@@ -46,10 +46,10 @@ module _ (classes : Table) (role_of : List ℕ) (roles : List Role) (kept : Kept
   -- the next node joins the role whose head has its class
   pub starting_joined : (r : ℕ) → r < length roles → classes (head_at roles r) ≡ classes (length role_of) → Next r
   starting_joined r known alike =
-      let head = kept.headed r known in
+      let head = kept.described r known in
       starting_more (length role_of) classes (table_of role_of) _ r (puts_pushed role_of r 0)
-      (λ k l e. start.0 k (head_at roles r) l head.0 (e ∙ sym head.1) ∙ alike)
-      (λ k l e. start.1 k (head_at roles r) l head.0 (e ∙ sym alike) ∙ head.1)
+      (λ k l e. start.0 k (head_at roles r) l head.node (e ∙ sym head.mate) ∙ alike)
+      (λ k l e. start.1 k (head_at roles r) l head.node (e ∙ sym alike) ∙ head.mate)
       start
 
   -- no head has the class of the next node
@@ -60,6 +60,6 @@ module _ (classes : Table) (role_of : List ℕ) (roles : List Role) (kept : Kept
       (λ k l e.
       let r = table_of role_of k in
       let known = kept.ranged k l in
-      let head = kept.headed r known in
-      absurd (none r known (start.0 (head_at roles r) k head.0 l head.1 ∙ e)))
+      let head = kept.described r known in
+      absurd (none r known (start.0 (head_at roles r) k head.node l head.mate ∙ e)))
       start

@@ -7,7 +7,7 @@ use Rattle.equivalence.specs.Splitting.{members}
 use Rattle.arrayvec.specs.ArrayVec.{ArrayVec, with_items}
 use Rattle.arrayvec.proofs.ArrayVecLemmas.{items-with_items}
 use Rattle.equivalence.specs.Vetted.{table_of}
-use Rattle.session.specs.Roles.{record_at, head_at, size_at, Kept}
+use Rattle.session.specs.Roles.{record_at, head_at, Kept}
 use Rattle.session.specs.declared.role.Role.{Role}
 use Rattle.session.proofs.Records.{Puts, grown, shrunk, kept_joined, kept_founded, kept_moved, kept_led}
 use Rattle.session.proofs.Counted.{count_short, no_head}
@@ -28,8 +28,8 @@ pub record-written : (v : ArrayVec Role) (shown : List Role) (i : ℕ) (change :
 record-written v shown i change x e is = items-written v shown i x e ∙ ap (set v.items i) (is ∙ ap (λ (rs : List Role). change (record_at rs i)) e)
 
 -- a role has no more nodes than there are
-pub size_le : (role_of : List ℕ) (roles : List Role) → Kept role_of roles → (r : ℕ) → r < length roles → size_at roles r ≤ length role_of
-size_le role_of roles kept r known = omega (arith, kept.sized r known, count_below_le (members (table_of role_of) r) (length role_of))
+pub size_le : (role_of : List ℕ) (roles : List Role) → Kept role_of roles → (r : ℕ) → r < length roles → (record_at roles r).size ≤ length role_of
+size_le role_of roles kept r known = omega (arith, (kept.described r known).size, count_below_le (members (table_of role_of) r) (length role_of))
 
 -- the next node joins role r
 pub joined : (role_of : List ℕ) (roles : List Role) (r : ℕ) → Kept role_of roles → length role_of < 128 → r < length roles → Kept (role_of ++ r ∷ []) (set roles r (grown (record_at roles r)))
@@ -56,8 +56,8 @@ module _ (role_of : List ℕ) (roles : List Role) (x : ℕ) (kept : Kept role_of
   shrinks : Puts (record_at roles) (record_at left) part (shrunk (record_at roles part))
   shrinks = puts_set roles _ _ part (kept.ranged x node)
 
-  pub part_pos : 0 < size_at roles part
-  part_pos = omega (arith, kept.sized part (kept.ranged x node), count_below_pos (members (table_of role_of) part) (length role_of) x node (eq-eqb part part refl))
+  pub part_pos : 0 < (record_at roles part).size
+  part_pos = omega (arith, (kept.described part (kept.ranged x node)).size, count_below_pos (members (table_of role_of) part) (length role_of) x node (eq-eqb part part refl))
 
   pub left_same : (r : ℕ) → (part ≡ r → ⊥) → record_at left r ≡ record_at roles r
   left_same r other = shrinks.off r (λ e. other (sym e))
@@ -70,7 +70,7 @@ module _ (role_of : List ℕ) (roles : List Role) (x : ℕ) (kept : Kept role_of
       (kept_moved (length role_of) _ _ _ (record_at roles) _ kept x r node later other (puts_set role_of r 0 x node) (record_at left) shrinks known past grows)
 
   pub room : length roles < length role_of
-  room = count_short (length role_of) (table_of role_of) (length roles) (head_at roles) kept.headed x node (no_head (length role_of) (table_of role_of) (length roles) (head_at roles) kept.headed x later)
+  room = count_short (length role_of) (table_of role_of) (length roles) (record_at roles) kept.described x node (no_head (length role_of) (table_of role_of) (length roles) (record_at roles) kept.described x later)
 
   -- for the next role
   pub led : Kept (set role_of x (length roles)) (left ++ record { head = x; size = 1 } ∷ [])

@@ -2,12 +2,8 @@
 --
 --   record_at    the record of a role
 --   head_at      the head that the record has
---   size_at      the size that the record has
---   Ranged       every node has a role, and roles are numbered from 0
---   Headed       each role's head is one of its nodes, so no role is empty
---   Lowest       no node below the head has the role
---   Sized        each role's size is the number of its nodes
---   Recorded     all of it, with at most 128 nodes, and no more roles than nodes
+--   Described    the record of a role: its head is its lowest node, so the role is not empty, and its size the number of its nodes
+--   Recorded     roles are numbered from 0, each with its record; there are at most 128 nodes, and no more roles than nodes
 --   Kept         the same, of the roles of the nodes and the records of the roles
 use Rattle.std.specs.Prelude.{◌≡◌, ℕ, ◌<◌, ◌≤◌, List, ◌≢◌, length, slice_index_or}
 use Rattle.network.specs.Meaning.{count_below}
@@ -22,28 +18,17 @@ record_at roles r = slice_index_or roles r (record { head = 0; size = 0 })
 abbrev pub head_at : List Role → ℕ → ℕ
 head_at roles r = (record_at roles r).head
 
-abbrev pub size_at : List Role → ℕ → ℕ
-size_at roles r = (record_at roles r).size
+pub record Described (nodes : ℕ) (role : Table) (r : ℕ) (told : Role) : Type 0 where
+  pub node : told.head < nodes
+  pub mate : role told.head ≡ r
+  pub lowest : (k : ℕ) → k < told.head → role k ≢ r
+  pub size : told.size ≡ count_below (members role r) nodes
 
-abbrev pub Ranged : ℕ → Table → ℕ → Type 0
-Ranged nodes role count = (x : ℕ) → x < nodes → role x < count
-
-abbrev pub Headed : ℕ → Table → ℕ → (ℕ → ℕ) → Type 0
-Headed nodes role count head = (r : ℕ) → r < count → (head r < nodes) × (role (head r) ≡ r)
-
-abbrev pub Lowest : Table → ℕ → (ℕ → ℕ) → Type 0
-Lowest role count head = (r k : ℕ) → r < count → k < head r → role k ≢ r
-
-abbrev pub Sized : ℕ → Table → ℕ → (ℕ → ℕ) → Type 0
-Sized nodes role count size = (r : ℕ) → r < count → size r ≡ count_below (members role r) nodes
-
-pub record Recorded (nodes : ℕ) (role : Table) (count : ℕ) (head size : ℕ → ℕ) : Type 0 where
+pub record Recorded (nodes : ℕ) (role : Table) (count : ℕ) (records : ℕ → Role) : Type 0 where
   pub few : nodes ≤ 128
   pub packed : count ≤ nodes
-  pub ranged : Ranged nodes role count
-  pub headed : Headed nodes role count head
-  pub lowest : Lowest role count head
-  pub sized : Sized nodes role count size
+  pub ranged : (x : ℕ) → x < nodes → role x < count
+  pub described : (r : ℕ) → r < count → Described nodes role r (records r)
 
 abbrev pub Kept : List ℕ → List Role → Type 0
-Kept role_of roles = Recorded (length role_of) (table_of role_of) (length roles) (head_at roles) (size_at roles)
+Kept role_of roles = Recorded (length role_of) (table_of role_of) (length roles) (record_at roles)

@@ -1,10 +1,9 @@
 // A settled session: its table is the coarsest regular one within the starting classes.
-ghost use Rattle.std.specs.Prelude.{◌≡◌, ◌+◌, ◌<◌, ◌≤◌, length, IfOk, MatchResult};
+ghost use Rattle.std.specs.Prelude.{◌≡◌, ◌+◌, ◌<◌, length, IfOk};
 ghost use Rattle.equivalence.specs.Regular.{Regular};
 ghost use Rattle.equivalence.specs.Coarsest.{Coarsest, roles};
 ghost use Rattle.session.specs.Tables.{class_in, role_in};
-ghost use Rattle.session.specs.Tellings.{Described, role_answer};
-ghost use Rattle.session.specs.declared.faults.Fault.{Fault};
+ghost use Rattle.session.specs.Tellings.{RoleTold, role_answer};
 
 use super::faults::Fault;
 use super::open::Open;
@@ -67,8 +66,7 @@ impl<N: Editable, M: Measure> Settled<N, M> {
 
     // The head and the size of role r.
     pub fn role(&self, r: usize) -> Result<Role, Fault>
-        ensures { let n = (N.Readable.meaning self.now.session.network).nodes in let role = role_in self.now.session.table in
-            MatchResult result (λ v. (r < roles role n) × Described n role r v) (λ f. (f ≡ Fault.Role) × (roles role n ≤ r)) }
+        ensures { RoleTold (N.Readable.meaning self.now.session.network).nodes (role_in self.now.session.table) r result }
     {
         self.session.role(r)
     }

@@ -1,9 +1,8 @@
 // What both kinds of session tell.
-ghost use Rattle.std.specs.Prelude.{◌≡◌, ◌+◌, ◌<◌, ◌≤◌, length, IfOk, MatchResult};
+ghost use Rattle.std.specs.Prelude.{◌≡◌, ◌+◌, ◌<◌, length, IfOk};
 ghost use Rattle.equivalence.specs.Coarsest.{Between, roles};
 ghost use Rattle.session.specs.Tables.{class_in, role_in};
-ghost use Rattle.session.specs.Tellings.{Described, role_answer};
-ghost use Rattle.session.specs.declared.faults.Fault.{Fault};
+ghost use Rattle.session.specs.Tellings.{RoleTold, role_answer};
 
 use super::super::faults::Fault;
 use super::super::role::Role;
@@ -42,10 +41,9 @@ impl<N: Editable, M: Measure> Open<N, M> {
     }
 
     // The head and the size of role r.
-    #[tactic(auto, using(crate::proofs::Keeping::numbered, crate::proofs::Keeping::described))]
+    #[tactic(auto, using(crate::proofs::Keeping::numbered))]
     pub fn role(&self, r: usize) -> Result<Role, Fault>
-        ensures { let n = (N.Readable.meaning self.now.network).nodes in let role = role_in self.now.table in
-            MatchResult result (λ v. (r < roles role n) × Described n role r v) (λ f. (f ≡ Fault.Role) × (roles role n ≤ r)) }
+        ensures { RoleTold (N.Readable.meaning self.now.network).nodes (role_in self.now.table) r result }
     {
         if r >= self.table.count() {
             return Err(Fault::Role);

@@ -1,6 +1,6 @@
 use Rattle.std.proofs.Common.{◌<◌, length, ◌∙◌, below_more, refl, sym, ap, arith}
 use Rattle.equivalence.specs.Splitting.{Even, members}
-use Rattle.session.specs.Roles.{size_at}
+use Rattle.session.specs.Roles.{record_at}
 use Rattle.session.specs.Tables.{role_in}
 use Rattle.session.specs.declared.role.Role.{Role}
 use Rattle.session.proofs.Splits.{even_single}
@@ -22,7 +22,7 @@ loop-r-preserved g c =
     let next = below_more (λ k. Even g.M.Measure.ops m role k (members role c.args.c)) r c.loop-r.invariant.1 in
     elim c.else-role-gt1.branch [
       | else-role-gt1-via-then-role-gt1+else-split_role w ↦ (w.self-is ∙ w.split_role.ensures.kept w.if-split_role.false ∙ same, next (rw same at (w.split_role.ensures.even w.if-split_role.false)))
-      | else-role-gt1-via-else-role-gt1 w ↦ (w.self-is ∙ same, next (even_single g.M.Measure.ops g.met.M.Measure.lawful m s.table s.fits r c.args.c known (omega (arith, w.if-role-gt1.false, ap (λ (v : Role). v.size) c.role.ensures, ap (λ v. size_at v.table.roles.items r) same))))
+      | else-role-gt1-via-else-role-gt1 w ↦ (w.self-is ∙ same, next (even_single g.M.Measure.ops g.met.M.Measure.lawful m s.table s.fits r c.args.c known (omega (arith, w.if-role-gt1.false, ap (λ (v : Role). v.size) c.role.ensures, ap (λ v. (record_at v.table.roles.items r).size) same))))
     ]
 
 pub returns-clause-search : goal.returns-clause-search
