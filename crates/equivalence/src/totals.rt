@@ -1,6 +1,6 @@
 // What a node has with a set of nodes.
-ghost use Rattle.std.specs.Prelude.{◌≡◌, ℕ, Bool, filter};
-ghost use Rattle.std.specs.List.{range_with_len};
+ghost use Rattle.std.specs.Prelude.{◌≡◌, ℕ, Bool, filter, map};
+ghost use Rattle.std.specs.List.{fold, range_with_len};
 ghost use Rattle.equivalence.specs.Totals.{total, labelled};
 
 use measure::interface::Measure;
@@ -29,14 +29,17 @@ pub fn total_toward<N: Readable, M: Measure>(
         .fold(measure.none(), |sum, value| measure.join(sum, value))
 }
 
-// The total of x toward a list of nodes, which are those of a set, in order. One weigh for each of them.
+// What x has with the nodes of a list, joined: its total toward a set, where the list has the nodes of the set in order.
+// One weigh for each of them.
 pub fn total_over<N: Readable, M: Measure>(
     network: &N,
     measure: &M,
     x: usize,
     nodes: &[u8],
 ) -> M::Value
-    ensures { (among : ℕ → Bool) → nodes.now ≡ filter among (range_with_len 0 (N.Readable.meaning network.now).nodes) →
+    ensures listed { let m = N.Readable.meaning network.now in
+        result ≡ fold M.Measure.ops.join M.Measure.ops.none (map (λ y. M.Measure.ops.weigh (m.tie x y) (m.tie y x)) nodes.now) }
+    ensures set { (among : ℕ → Bool) → nodes.now ≡ filter among (range_with_len 0 (N.Readable.meaning network.now).nodes) →
         result ≡ total M.Measure.ops (N.Readable.meaning network.now) x among }
 {
     nodes

@@ -1,7 +1,7 @@
 // Whether a table is regular.
 ghost use Rattle.std.specs.Prelude.{◌≡◌, ◌<◌, ◌≤◌, length, Decides, MatchOption};
 ghost use Rattle.equivalence.specs.Totals.{total, labelled};
-ghost use Rattle.equivalence.specs.Regular.{Agrees, Balanced, Heads, Regular, Strays, Unequal, mates};
+ghost use Rattle.equivalence.specs.Regular.{Agrees, Balanced, Heads, Regular, Strays, Unequal};
 ghost use Rattle.equivalence.specs.Vetted.{Vetted, table_of};
 
 use super::faults::Fault;

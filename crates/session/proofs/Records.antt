@@ -130,11 +130,11 @@ module _ (n : ℕ) (role role' : Table) (count : ℕ) (old mid new : ℕ → Rol
           ranged = still_ranged (count + 1) (omega arith) (omega arith);
           described = λ s l. elim (cases_lt s count) [
             | inl b ↦ record {
-                node = omega (arith, heads' s b, (kept.described s b).node);
-                mate = ap role' (heads' s b) ∙ still_head s b;
-                lowest = λ k lt e. still_lowest s k b (omega (arith, heads' s b)) (λ d. absurd (omega arith)) e;
-                size = ap (λ v. v.size) (older s b) ∙ sizes s b (λ d. omega arith);
-              }
+              node = omega (arith, heads' s b, (kept.described s b).node);
+              mate = ap role' (heads' s b) ∙ still_head s b;
+              lowest = λ k lt e. still_lowest s k b (omega (arith, heads' s b)) (λ d. absurd (omega arith)) e;
+              size = ap (λ v. v.size) (older s b) ∙ sizes s b (λ d. omega arith);
+            }
             | inr h ↦
                 let e = newer s l h in
                 record {
@@ -158,8 +158,8 @@ module _ (n : ℕ) (role role' : Table) (count : ℕ) (old new : ℕ → Role) (
       known (kept.described r known).node (omega (arith, (kept.described r known).size, next_in role role' n r takes)) grows
 
   -- the next node is a role of its own
-  pub kept_founded : n < 128 → Puts role role' n count → Puts old new count (record { head = n; size = 1 }) → Recorded (n + 1) role' (count + 1) new
-  kept_founded room takes opens =
+  pub kept_begun : n < 128 → Puts role role' n count → Puts old new count (record { head = n; size = 1 }) → Recorded (n + 1) role' (count + 1) new
+  kept_begun room takes opens =
       kept_fresh n role role' count old old new kept n count (n + 1) takes
       (λ s l e. omega (arith, (kept.described s l).node)) (omega arith) (omega arith) (omega arith) (λ y l ne. omega arith) (λ s. refl)
       (λ s l ne. (kept.described s l).size ∙ sym (next_out role role' n count takes s ne))

@@ -53,8 +53,8 @@ module _ (classes : Table) (role_of : List ℕ) (roles : List Role) (kept : Kept
       start
 
   -- no head has the class of the next node
-  pub starting_founded : ((r : ℕ) → r < length roles → classes (head_at roles r) ≡ classes (length role_of) → ⊥) → Next (length roles)
-  starting_founded none =
+  pub starting_begun : ((r : ℕ) → r < length roles → classes (head_at roles r) ≡ classes (length role_of) → ⊥) → Next (length roles)
+  starting_begun none =
       starting_more (length role_of) classes (table_of role_of) _ (length roles) (puts_pushed role_of (length roles) 0)
       (λ k l e. absurd (omega (arith, kept.ranged k l)))
       (λ k l e.

@@ -9,7 +9,7 @@ use Rattle.arrayvec.proofs.ArrayVecLemmas.{items-with_items}
 use Rattle.equivalence.specs.Vetted.{table_of}
 use Rattle.session.specs.Roles.{record_at, head_at, Kept}
 use Rattle.session.specs.declared.role.Role.{Role}
-use Rattle.session.proofs.Records.{Puts, grown, shrunk, kept_joined, kept_founded, kept_moved, kept_led}
+use Rattle.session.proofs.Records.{Puts, grown, shrunk, kept_joined, kept_begun, kept_moved, kept_led}
 use Rattle.session.proofs.Counted.{count_short, no_head}
 
 module _ {V : Type 0} (xs : List V) (v d : V) where
@@ -39,11 +39,11 @@ joined role_of roles r kept room known =
     (kept_joined (length role_of) _ _ _ (record_at roles) (record_at (set roles r after)) kept r room known (puts_pushed role_of r 0) (puts_set roles after _ r known))
 
 -- the next node is a role of its own
-pub founded : (role_of : List ℕ) (roles : List Role) → Kept role_of roles → length role_of < 128 → Kept (role_of ++ length roles ∷ []) (roles ++ record { head = length role_of; size = 1 } ∷ [])
-founded role_of roles kept room =
+pub begun : (role_of : List ℕ) (roles : List Role) → Kept role_of roles → length role_of < 128 → Kept (role_of ++ length roles ∷ []) (roles ++ record { head = length role_of; size = 1 } ∷ [])
+begun role_of roles kept room =
     let after : Role = record { head = length role_of; size = 1 } in
     rw (length_push role_of (length roles), length_push roles after)
-    (kept_founded (length role_of) _ _ _ (record_at roles) (record_at (roles ++ after ∷ [])) kept room (puts_pushed role_of (length roles) 0) (puts_pushed roles after _))
+    (kept_begun (length role_of) _ _ _ (record_at roles) (record_at (roles ++ after ∷ [])) kept room (puts_pushed role_of (length roles) 0) (puts_pushed roles after _))
 
 -- node x, above the head of its role, leaves it
 module _ (role_of : List ℕ) (roles : List Role) (x : ℕ) (kept : Kept role_of roles) (node : x < length role_of) (later : head_at roles (table_of role_of x) < x) where

@@ -1,7 +1,6 @@
 // The refusals of a session, with their numbers and layer.
 ghost use Rattle.std.specs.Prelude.{◌≡◌, Some};
-ghost use Rattle.network.specs.declared.faults.Layer.{Layer};
-ghost use Rattle.session.specs.Faults.{number, said};
+ghost use Rattle.session.specs.Faults.{number, layer, said};
 
 use network::faults::Layer;
 use std::error::Error;
@@ -24,7 +23,7 @@ impl Fault {
     }
 
     pub fn layer(self) -> Layer
-        ensures { result ≡ Layer.Session }
+        ensures { result ≡ layer self }
     {
         Layer::Session
     }

@@ -11,12 +11,12 @@ use super::table::Table;
 use measure::interface::Measure;
 use network::interface::Editable;
 
-// What both kinds of session tell.
+// What a session tells.
 mod telling;
 // The search for a split.
 mod stepping;
 
-// Put alters ties, colour alters colours, and either brings the table back to the starting classes.
+// Put alters ties, colour alters colours, and either brings the table back to the starting classes where it is accepted.
 #[derive(Drop)]
 pub struct Open<N: Editable, M: Measure> {
     network: N,

@@ -1,5 +1,5 @@
 // One role of a table.
-ghost use Rattle.std.specs.Prelude.{◌≡◌, ◌+◌, ◌-◌, ◌^◌, ◌<◌};
+ghost use Rattle.std.specs.Prelude.{◌≡◌, ◌+◌, ◌-◌, ◌<◌, ◌≤◌};
 
 #[derive(Clone, Copy, PartialEq, Eq, Debug, Default)]
 pub struct Role {
@@ -11,7 +11,7 @@ pub struct Role {
 impl Role {
     // One node more, above the head.
     pub(crate) fn grow(&mut self)
-        requires { self.old.size < 2 ^ 16 }
+        requires { self.old.size ≤ 128 }
         ensures { self.new ≡ record { head = self.old.head; size = self.old.size + 1 } }
     {
         self.size += 1;

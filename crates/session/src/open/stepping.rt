@@ -1,5 +1,5 @@
 // The search for a split. Partition refinement by roles of the table itself, without the smaller-half rule: a measure has no subtraction.
-// A step reads each ordered pair of nodes a constant number of times.
+// A step reads each ordered pair of nodes at most four times, and the bytes of the table a few times for each pair of roles.
 ghost use Rattle.std.specs.Prelude.{◌≡◌, ◌↔◌, ℕ, true, false, ◌<◌, MatchOption};
 ghost use Rattle.arrayvec.specs.ArrayVec.{array_vec_len};
 ghost use Rattle.equivalence.specs.Regular.{Balanced, Regular};

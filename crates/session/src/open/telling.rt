@@ -1,4 +1,4 @@
-// What both kinds of session tell.
+// What a session tells, open or settled.
 ghost use Rattle.std.specs.Prelude.{◌≡◌, ◌+◌, ◌<◌, length, IfOk};
 ghost use Rattle.equivalence.specs.Coarsest.{Between, roles};
 ghost use Rattle.session.specs.Tables.{class_in, role_in};

@@ -1,5 +1,5 @@
 // The starting classes: nodes of equal colour are together.
-ghost use Rattle.std.specs.Prelude.{◌≡◌, ◌≢◌, ℕ, ◌+◌, ◌<◌, ◌≤◌, [], ◌∷◌, ◌++◌, length, slice_set, MatchOption};
+ghost use Rattle.std.specs.Prelude.{◌≡◌, ◌≢◌, ℕ, ◌<◌, ◌≤◌, [], ◌∷◌, ◌++◌, length, slice_set, MatchOption};
 ghost use Rattle.arrayvec.specs.ArrayVec.{array_vec_len};
 ghost use Rattle.equivalence.specs.Vetted.{table_of};
 ghost use Rattle.session.specs.Roles.{head_at};
@@ -37,9 +37,9 @@ impl Table {
         self.roles[r].grow();
     }
 
-    // The next node is a role of its own.
-    #[tactic(auto, using(crate::proofs::Writes::founded))]
-    fn found(&mut self)
+    // The next node begins a role of its own.
+    #[tactic(auto, using(crate::proofs::Writes::begun))]
+    fn begin(&mut self)
         requires room { array_vec_len self.old.role_of < 128 }
         ensures table { self.new.role_of.items ≡ self.old.role_of.items ++ array_vec_len self.old.roles ∷ [] }
         ensures colours { self.new.colours ≡ self.old.colours }
@@ -59,7 +59,7 @@ impl Table {
         (0..self.roles.len()).find(|&r| self.colours[self.roles[r].head] == colour)
     }
 
-    // The table of n nodes in which those of equal colour are together.
+    // The table of n nodes in which those of equal colour are together. Each node is held against the heads so far.
     fn starting(n: usize, colours: [u8; 128]) -> Table
         requires { n ≤ 128 }
         ensures colours { result.colours ≡ colours }
@@ -71,7 +71,7 @@ impl Table {
         for x in 0..n {
             match table.class(table.colours[x]) {
                 Some(r) => table.join(r),
-                None => table.found(),
+                None => table.begin(),
             }
         }
         table

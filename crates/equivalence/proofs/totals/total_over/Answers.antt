@@ -3,8 +3,8 @@ use Rattle.std.specs.List.{fold}
 use Rattle.equivalence.proofs.Gathering.{gather_filter}
 use Rattle.equivalence.proofs.totals.total_over.Goals as goal
 
-pub returns : goal.returns
-returns g c among is =
+pub returns-clause-set : goal.returns-clause-set
+returns-clause-set g c among is =
     let o = g.M.Measure.ops in
     let m = g.N.Readable.meaning c.args.network.now in
     let brought = λ (y : ℕ). o.weigh (m.tie c.args.x y) (m.tie y c.args.x) in

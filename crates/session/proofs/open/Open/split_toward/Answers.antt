@@ -7,10 +7,6 @@ use Rattle.session.proofs.Splits.{even_single}
 use Rattle.session.proofs.open.Open.split_toward.Goals as goal
 use Rattle.session.proofs.open.Open.split_toward.Goals.{else-role-gt1-via-then-role-gt1+else-split_role, else-role-gt1-via-else-role-gt1}
 
-pub returns-then-split_role-clause-search : goal.returns-then-split_role-clause-search
-returns-then-split_role-clause-search g c =
-    rw c.loop-r.invariant.0 at (c.split_role.ensures.split c.if-split_role.true)
-
 pub loop-r-preserved : goal.loop-r-preserved
 loop-r-preserved g c =
     let s = c.args.self.now in

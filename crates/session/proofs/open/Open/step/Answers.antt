@@ -1,4 +1,4 @@
-use Rattle.std.proofs.Common.{rules, length, sym, ap, refl, arith}
+use Rattle.std.proofs.Common.{rules, length, ap, refl, arith}
 use Rattle.equivalence.specs.Regular.{Regular}
 use Rattle.equivalence.proofs.Refinement.{split_irregular, regular_each}
 use Rattle.session.specs.Tables.{role_in}
@@ -13,9 +13,6 @@ returns-in-Some-clause-stable g c =
       λ regular. absurd (split_irregular g.M.Measure.ops (g.N.Readable.meaning s.network) (role_in s.table) (role_in c.split_toward.new.self.table) c.in-Some.part c.loop-toward.toward (length s.table.roles.items) split regular),
     )
 
-pub returns-in-Some-clause-stepped : goal.returns-in-Some-clause-stepped
-returns-in-Some-clause-stepped g c = rw (c.count-fresh.ensures, sym c.loop-toward.invariant.0) c.in-Some.ensures.search
-
 regular : (g : Over) (c : goal.After-loop-toward g) → Regular g.M.Measure.ops (g.N.Readable.meaning c.args.self.now.network) (role_in c.args.self.now.table)
 regular g c =
     let s = c.args.self.now in
@@ -27,4 +24,4 @@ pub returns-clause-stable : goal.returns-clause-stable
 returns-clause-stable g c = (λ _. regular g c, λ _. refl)
 
 pub returns-clause-stepped : goal.returns-clause-stepped
-returns-clause-stepped g c = (regular g c, ap (λ v. v.table) c.loop-toward.invariant.0)
+returns-clause-stepped g c = ap (λ v. v.table) c.loop-toward.invariant.0

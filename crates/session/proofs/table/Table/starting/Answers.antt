@@ -2,7 +2,7 @@ use Rattle.std.proofs.Common.{◌+◌, ◌∙◌, sym, ap, length}
 use Rattle.std.proofs.lemmas.List.{length_push}
 use Rattle.equivalence.specs.Vetted.{table_of}
 use Rattle.session.specs.Sessions.{Starting}
-use Rattle.session.proofs.Starts.{starting_joined, starting_founded}
+use Rattle.session.proofs.Starts.{starting_joined, starting_begun}
 use Rattle.session.proofs.table.Table.starting.Goals as goal
 use Rattle.session.proofs.table.Table.starting.Goals.{in-Some, in-None}
 
@@ -18,6 +18,6 @@ loop-x-preserved c =
           let next = starting_joined classes m.role_of.items roles m.kept start w.in-Some.r w.in-Some.ensures.0 (w.in-Some.ensures.1 ∙ ap classes (sym long)) in
           rw (w.table-is, w.join.ensures.table, w.join.ensures.colours) (length_push m.role_of.items _ ∙ ap (λ k. k + 1) long, rw long at next, w.join.ensures.splits ∙ c.loop-x.invariant.2, c.loop-x.invariant.3)
       | in-None w ↦
-          let next = starting_founded classes m.role_of.items roles m.kept start (λ r known e. w.in-None.ensures r known (e ∙ ap classes long)) in
-          rw (w.table-is, w.found.ensures.table, w.found.ensures.colours) (length_push m.role_of.items _ ∙ ap (λ k. k + 1) long, rw long at next, w.found.ensures.splits ∙ c.loop-x.invariant.2, c.loop-x.invariant.3)
+          let next = starting_begun classes m.role_of.items roles m.kept start (λ r known e. w.in-None.ensures r known (e ∙ ap classes long)) in
+          rw (w.table-is, w.begin.ensures.table, w.begin.ensures.colours) (length_push m.role_of.items _ ∙ ap (λ k. k + 1) long, rw long at next, w.begin.ensures.splits ∙ c.loop-x.invariant.2, c.loop-x.invariant.3)
     ]
