@@ -1,7 +1,7 @@
 // Small networks with known tables.
 use super::classical::Classical;
 use super::faults::Fault;
-use super::totals::total_toward;
+use super::totals::{total_over, total_toward};
 use super::vetting::vet;
 use measure::bundles::Bundles;
 use measure::interface::Measure;
@@ -211,6 +211,25 @@ fn a_total_takes_each_node_of_the_set(rt: HostRuntime) -> Result<(), Fail> {
             total_toward(&network, &Kinds, 0, &[7, 7, 7], 8),
             Kinds.none(),
         )
+    );
+    Ok(())
+}
+
+#[test]
+fn a_list_is_joined_node_by_node(rt: HostRuntime) -> Result<(), Fail> {
+    let network = matrix(&rt, rt.alloc(), 3, &[(0, 1), (2, 0)])?;
+    let out = Tally.weigh(1, 0);
+    let into = Tally.weigh(0, 1);
+    assert_eq!(rt; total_over(&network, &Tally, 0, &[]), Tally.none());
+    assert_eq!(rt; total_over(&network, &Tally, 0, &[1]), out);
+    assert_eq!(rt;
+        total_over(&network, &Tally, 0, &[0, 1, 2]),
+        Tally.join(out, into)
+    );
+    // A node that is listed twice counts twice, and one that is none has no tie.
+    assert_eq!(rt;
+        total_over(&network, &Tally, 0, &[1, 1, 3]),
+        Tally.join(out, out)
     );
     Ok(())
 }
