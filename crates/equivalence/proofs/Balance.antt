@@ -7,16 +7,8 @@ use Rattle.measure.specs.Measures.{Operations}
 use Rattle.equivalence.specs.Totals.{total, labelled}
 use Rattle.equivalence.specs.Regular.{Table, Agrees, Balanced, Heads, Strays, Unequal, mates}
 use Rattle.equivalence.specs.Vetted.{table_of}
+use Rattle.equivalence.proofs.Firsts.{heads_one}
 use Rattle.equivalence.proofs.Gathering.{total_same}
-
--- a role has one lowest node
-heads_one : (role : Table) (x y z : ℕ) → Heads role x z → Heads role y z → x ≡ y
-heads_one role x y z first second =
-    elim (cases_order x y) [
-      | inl same ↦ same
-      | inr (inl under) ↦ absurd (second.lowest x under first.mate)
-      | inr (inr over) ↦ absurd (first.lowest y over second.mate)
-    ]
 
 module _ {V : Type 0} (o : Operations V) (m : Meaning) (role : Table) (among : ℕ → Bool) where
   abbrev value : ℕ → V
