@@ -10,6 +10,7 @@ use std::fmt;
 pub enum Layer {
     Network,
     Session,
+    Question,
     Vet,
 }
 

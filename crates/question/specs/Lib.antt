@@ -1,0 +1,5 @@
+pub mod Lines
+pub mod Faults
+pub mod Checks
+pub mod Truth
+pub mod Areas

@@ -1,0 +1,40 @@
+// Whether a question can be answered.
+ghost use Rattle.std.specs.Prelude.{◌≡◌, length};
+ghost use Rattle.question.specs.Checks.{line_check, lines_check, answer_start};
+
+use super::faults::Fault;
+use super::line::Line;
+
+// Line `at`: its code, and then the lines that it names.
+fn check_line(at: usize, line: Line) -> Result<(), Fault>
+    ensures { result ≡ line_check at line }
+{
+    match line.claim() {
+        None => Err(Fault::Code(at)),
+        Some(claim) if claim.is_after(at) => Ok(()),
+        Some(_) => Err(Fault::Later(at)),
+    }
+}
+
+fn check_lines(question: &[Line]) -> Result<(), Fault>
+    ensures { result ≡ lines_check 0 question.now }
+{
+    for (at, &line) in question.iter().enumerate() {
+        check_line(at, line)?;
+    }
+    Ok(())
+}
+
+// Where the last row starts, in an area of so many bytes with a row of this width for each line.
+pub fn check(question: &[Line], width: usize, size: usize) -> Result<usize, Fault>
+    ensures { result ≡ answer_start question.now width size }
+{
+    if question.is_empty() || question.len() > 32 {
+        return Err(Fault::Lines);
+    }
+    check_lines(question)?;
+    match question.len().checked_mul(width) {
+        Some(needed) if needed <= size => Ok(needed - width),
+        _ => Err(Fault::Area),
+    }
+}
