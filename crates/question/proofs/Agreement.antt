@@ -50,7 +50,7 @@ agree_push n at placed plain r s agree more =
 
 module _ {V : Type 0} (o : Operations V) (m : Meaning) (colours : Table) (at : Places) (stands : (x : ℕ) → x < m.nodes → Stands o m colours at x) where
   module _ (placed plain : List (ℕ → Bool)) (agree : Agree m.nodes at placed plain) (x : ℕ) (node : x < m.nodes) where
-    claimed_same : (c : Claim) → claimed o m colours at placed c (at.place x) ≡ claimed o m colours each_node plain c x
+    claimed_same : (c : Claim) → claimed o m colours at (row placed) c (at.place x) ≡ claimed o m colours each_node (row plain) c x
     claimed_same (Colour c) = ap (λ v. eqb v c) (stands x node).colour
     claimed_same (Not k) = ap not (agree.same k x node)
     claimed_same (And k l) = ap₂ (λ a b. a && b) (agree.same k x node) (agree.same l x node)
@@ -59,11 +59,11 @@ module _ {V : Type 0} (o : Operations V) (m : Meaning) (colours : Table) (at : P
         (total_same o m (at.node (at.place x)) (λ y. row placed k (at.place y)) (row plain k) (λ y l. agree.same k y l)
         ∙ (stands x node).totals (row plain k) (λ a b la lb e. sym (agree.same k a la) ∙ ap (row placed k) e ∙ agree.same k b lb))
 
-    told_same : (told : Option Claim) → ◌≡◌ {A = Bool} (elim told [ Some c ↦ claimed o m colours at placed c (at.place x) | None ↦ false ]) (elim told [ Some c ↦ claimed o m colours each_node plain c x | None ↦ false ])
+    told_same : (told : Option Claim) → ◌≡◌ {A = Bool} (elim told [ Some c ↦ claimed o m colours at (row placed) c (at.place x) | None ↦ false ]) (elim told [ Some c ↦ claimed o m colours each_node (row plain) c x | None ↦ false ])
     told_same (Some c) = claimed_same c
     told_same None = refl
 
-  agree_fold : (lines : List Line) (placed plain : List (ℕ → Bool)) → Agree m.nodes at placed plain → Agree m.nodes at (fold (λ before line. before ++ line_row o m colours at before line ∷ []) placed lines) (fold (λ before line. before ++ line_row o m colours each_node before line ∷ []) plain lines)
+  agree_fold : (lines : List Line) (placed plain : List (ℕ → Bool)) → Agree m.nodes at placed plain → Agree m.nodes at (fold (λ before line. before ++ line_row o m colours at (row before) line ∷ []) placed lines) (fold (λ before line. before ++ line_row o m colours each_node (row before) line ∷ []) plain lines)
   agree_fold [] placed plain agree = agree
   agree_fold (line ∷ lines) placed plain agree =
       agree_fold lines _ _ (agree_push m.nodes at placed plain _ _ agree (λ x l. told_same placed plain agree x l (claim line)))

@@ -1,1 +1,3 @@
+pub mod Checked
+pub mod Rowing
 pub mod Agreement

@@ -2,8 +2,8 @@
 --
 --   Places         where it is answered: node p stands at place p for all of it, and place y is the place of node y
 --   row            the row of a line, as far as there are rows; false off them
---   claimed        a claim at a place, from the rows of the lines before
---   line_row       the row of a line
+--   claimed        a claim at a place, by what the lines before it are told to be there
+--   line_row       the row of a line, likewise
 --   rows           the rows of all lines, one after another
 --   each_node      every node is a place of its own
 --   each_role      every role is a place, and its head stands for its nodes
@@ -27,18 +27,18 @@ abbrev pub row : List (ℕ → Bool) → ℕ → ℕ → Bool
 row rows k = slice_index_or rows k (λ _. false)
 
 module _ {V : Type 0} (o : Operations V) (m : Meaning) (colours : Table) (at : Places) where
-  abbrev pub claimed : List (ℕ → Bool) → Claim → ℕ → Bool
-  claimed before (Colour c) p = colours (at.node p) == c
-  claimed before (Not k) p = not (row before k p)
-  claimed before (And k l) p = row before k p && row before l p
-  claimed before (Tied k t) p = o.holds (total o m (at.node p) (λ y. row before k (at.place y))) t
+  abbrev pub claimed : (ℕ → ℕ → Bool) → Claim → ℕ → Bool
+  claimed told (Colour c) p = colours (at.node p) == c
+  claimed told (Not k) p = not (told k p)
+  claimed told (And k l) p = told k p && told l p
+  claimed told (Tied k t) p = o.holds (total o m (at.node p) (λ y. told k (at.place y))) t
 
   -- a line of an unknown code, which no question that is answered has, is true of nothing
-  abbrev pub line_row : List (ℕ → Bool) → Line → ℕ → Bool
-  line_row before line p = elim (claim line) [ Some c ↦ claimed before c p | None ↦ false ]
+  abbrev pub line_row : (ℕ → ℕ → Bool) → Line → ℕ → Bool
+  line_row told line p = elim (claim line) [ Some c ↦ claimed told c p | None ↦ false ]
 
   abbrev pub rows : List Line → List (ℕ → Bool)
-  rows lines = fold (λ before line. before ++ line_row before line ∷ []) [] lines
+  rows lines = fold (λ before line. before ++ line_row (row before) line ∷ []) [] lines
 
 abbrev pub each_node : Places
 each_node = record { node = λ p. p; place = λ y. y }

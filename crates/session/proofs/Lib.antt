@@ -2,6 +2,7 @@ pub mod Counted
 pub mod Records
 pub mod Writes
 pub mod Searches
+pub mod Rows
 pub mod Ranges
 pub mod Starts
 pub mod Parts

@@ -6,6 +6,8 @@
 pub mod role;
 // The table of roles.
 mod table;
+// Where a question is answered.
+mod places;
 // The refusals of a session.
 pub mod faults;
 // What a step does.

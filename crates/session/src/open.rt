@@ -15,6 +15,8 @@ use network::interface::Editable;
 mod telling;
 // The search for a split.
 mod stepping;
+// What a question is true of.
+mod answering;
 
 // Put alters ties, colour alters colours, and either brings the table back to the starting classes where it is accepted.
 #[derive(Drop)]

@@ -72,6 +72,13 @@ impl Table {
         usize::from(self.role_of[x])
     }
 
+    pub(crate) fn colour_of(&self, x: usize) -> u8
+        requires { x < 128 }
+        ensures { result ≡ table_of self.now.colours x }
+    {
+        self.colours[x]
+    }
+
     pub(crate) fn role(&self, r: usize) -> Role
         requires { r < array_vec_len self.now.roles }
         ensures { result ≡ record_at self.now.roles.items r }

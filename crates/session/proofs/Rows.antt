@@ -1,0 +1,104 @@
+-- Rows of truth, written as bytes and read again. Assumes nothing.
+use Rattle.std.proofs.Common.{◌≡◌, ℕ, zero, suc, ◌+◌, ◌*◌, ◌<◌, ◌≤◌, Bool, true, false, cond, not, ◌&&◌, eqb, List, [], ◌∷◌, ◌++◌, length, get_or, take, drop, flat_map, Option, Some, None, sym, refl, ap, ◌∙◌, ap₂, add-one, suc-mul, arith}
+use Rattle.std.proofs.Math.Nat.{mul-le-mul_right}
+use Rattle.std.proofs.lemmas.Bool.{cases_Bool}
+use Rattle.std.proofs.lemmas.Bool.Decides.{nat_tests}
+use Rattle.std.proofs.lemmas.List.{length-append, get_or_append_left, get_or-append-add, take_at, drop_at, drop-drop, append-nil, append_assoc}
+use Rattle.std.proofs.lemmas.List.Concat.{flat_map-append}
+use Rattle.std.proofs.lemmas.List.FromFn.{fill_by_all, length-map-range_with_len, get_or-map-range_with_len}
+use Rattle.network.specs.Meaning.{Meaning}
+use Rattle.measure.specs.Measures.{Operations}
+use Rattle.equivalence.specs.Regular.{Table}
+use Rattle.equivalence.proofs.Gathering.{total_same}
+use Rattle.question.specs.Lines.{claim, earlier}
+use Rattle.question.specs.Truth.{Places, row, claimed, line_row}
+use Rattle.question.specs.Areas.{row_bytes}
+use Rattle.question.specs.declared.line.Line.{Line}
+use Rattle.question.specs.declared.line.Claim.{Claim}
+use Rattle.question.specs.declared.line.Claim.TheVariants.{Colour, Not, And, Tied}
+use Rattle.session.specs.Marks.{marked, Written}
+
+pub row_filled : (width : ℕ) (true_at : ℕ → Bool) (bytes : List ℕ) → length bytes ≡ width → ((p : ℕ) → p < width → get_or bytes p 0 ≡ cond (true_at p) 1 0) → bytes ≡ row_bytes width true_at
+row_filled width true_at bytes long at = fill_by_all _ bytes width 0 long at
+
+pub row_same : (width : ℕ) (r s : ℕ → Bool) → ((p : ℕ) → p < width → r p ≡ s p) → row_bytes width r ≡ row_bytes width s
+row_same width r s same =
+    row_filled width s (row_bytes width r) (length-map-range_with_len _ 0 width) (λ p l. get_or-map-range_with_len _ 0 width p p 0 l (omega arith) ∙ ap {B = ℕ} (λ b. cond b 1 0) (same p l))
+
+module _ (width : ℕ) where
+  length_row : (r : ℕ → Bool) → length (row_bytes width r) ≡ width
+  length_row r = length-map-range_with_len _ 0 width
+
+  pub length_rows : (rows : List (ℕ → Bool)) → length (flat_map (row_bytes width) rows) ≡ length rows * width
+  length_rows [] = omega arith
+  length_rows (r ∷ rows) = length-append (row_bytes width r) (flat_map (row_bytes width) rows) ∙ rw suc-mul (omega (arith, length_row r, length_rows rows))
+
+  read_row : (rows : List (ℕ → Bool)) (k p : ℕ) → k < length rows → p < width → get_or (flat_map (row_bytes width) rows) (k * width + p) 0 ≡ cond (row rows k p) 1 0
+  read_row [] k p lk lp = absurd (omega arith)
+  read_row (r ∷ rows) zero p lk lp =
+      let at : 0 * width + p ≡ p = omega arith in
+      ap (λ i. get_or (row_bytes width r ++ flat_map (row_bytes width) rows) i 0) at
+      ∙ get_or_append_left (row_bytes width r) (flat_map (row_bytes width) rows) 0 p (omega (arith, length_row r))
+      ∙ get_or-map-range_with_len _ 0 width p p 0 lp (omega arith)
+  read_row (r ∷ rows) (suc k) p lk lp =
+      let at : suc k * width + p ≡ length (row_bytes width r) + (k * width + p) = rw suc-mul (omega (arith, length_row r)) in
+      ap (λ i. get_or (row_bytes width r ++ flat_map (row_bytes width) rows) i 0) at
+      ∙ get_or-append-add (row_bytes width r) (flat_map (row_bytes width) rows) (k * width + p) 0
+      ∙ read_row rows k p (omega arith) lp
+
+  bit_is : (b : Bool) → eqb (cond b 1 0) 1 ≡ b
+  bit_is true = refl
+  bit_is false = refl
+
+  -- what is written of a row is read
+  pub marked_row : (rows : List (ℕ → Bool)) (k p : ℕ) → k < length rows → p < width → marked width (flat_map (row_bytes width) rows) k p ≡ row rows k p
+  marked_row rows k p lk lp = ap (λ v. eqb v 1) (read_row rows k p lk lp) ∙ bit_is (row rows k p)
+
+  under : (k at : ℕ) → k < at → k * width + width ≤ at * width
+  under k at l = omega (arith, rw suc-mul at (mul-le-mul_right {m = suc k} {n = at} width (omega arith)))
+
+  -- a claim that names only earlier lines reads rows that are written
+  pub written : (at : ℕ) (c : Claim) → earlier at c ≡ true → Written width (at * width) c
+  written at (Colour c) e = tt
+  written at (Not k) e = under k at (grind (arith, nat_tests))
+  written at (And k l) e = (under k at (grind (arith, nat_tests)), under l at (grind (arith, nat_tests)))
+  written at (Tied k t) e = under k at (grind (arith, nat_tests))
+
+  module _ (before : List (ℕ → Bool)) (k : ℕ) (count : length before ≡ k) (area old : List ℕ) (held : area ≡ flat_map (row_bytes width) before ++ drop (k * width) old) where
+    long : length (flat_map (row_bytes width) before) ≡ k * width
+    long = length_rows before ∙ ap (λ n. n * width) count
+
+    -- the rows so far are what stands before row k
+    pub rows_front : (front : List ℕ) → front ≡ take (k * width) area → front ≡ flat_map (row_bytes width) before
+    rows_front front is = is ∙ ap (take (k * width)) held ∙ take_at (flat_map (row_bytes width) before) (drop (k * width) old) (k * width) long
+
+    -- a row is written behind them, over what the area held there
+    pub row_written :
+        (r : ℕ → Bool) (front back here : List ℕ)
+        → front ≡ flat_map (row_bytes width) before
+        → back ≡ drop (k * width) area
+        → here ≡ row_bytes width r
+        → front ++ (here ++ drop width back) ≡ flat_map (row_bytes width) (before ++ r ∷ []) ++ drop ((k + 1) * width) old
+    row_written r front back here front_is back_is here_is =
+        let rows = flat_map (row_bytes width) before in
+        let behind : drop width (drop (k * width) old) ≡ drop ((k + 1) * width) old = drop-drop width (k * width) old ∙ ap (λ i. drop i old) (rw (add-one k, suc-mul) (omega arith)) in
+        rw (front_is, back_is, here_is, held, drop_at rows (drop (k * width) old) (k * width) long, behind, flat_map-append (row_bytes width) before (r ∷ []), append-nil (row_bytes width r))
+        (sym (append_assoc rows (row_bytes width r) (drop ((k + 1) * width) old)))
+
+module _ {V : Type 0} (o : Operations V) (m : Meaning) (colours : Table) (at : Places) (width : ℕ) (known : (y : ℕ) → y < m.nodes → at.place y < width) (before : List (ℕ → Bool)) where
+  told : (k p : ℕ) → k < length before → p < width → marked width (flat_map (row_bytes width) before) k p ≡ row before k p
+  told = marked_row width before
+
+  pub claimed_read : (c : Claim) → earlier (length before) c ≡ true → (p : ℕ) → p < width → claimed o m colours at (marked width (flat_map (row_bytes width) before)) c p ≡ claimed o m colours at (row before) c p
+  claimed_read (Colour c) e p l = refl
+  claimed_read (Not k) e p l = ap not (told k p (grind (arith, nat_tests)) l)
+  claimed_read (And j k) e p l = ap₂ (λ a b. a && b) (told j p (grind (arith, nat_tests)) l) (told k p (grind (arith, nat_tests)) l)
+  claimed_read (Tied k t) e p l = ap (λ v. o.holds v t) (total_same o m (at.node p) _ _ (λ y h. told k (at.place y) (grind (arith, nat_tests)) (known y h)))
+
+  -- the row of a line, by the bytes of the rows before it
+  pub line_read : (bytes : List ℕ) (line : Line) (c : Claim) → bytes ≡ flat_map (row_bytes width) before → claim line ≡ Some c → earlier (length before) c ≡ true → row_bytes width (claimed o m colours at (marked width bytes) c) ≡ row_bytes width (line_row o m colours at (row before) line)
+  line_read bytes line c is says after =
+      let claims : (p : ℕ) → line_row o m colours at (row before) line p ≡ claimed o m colours at (row before) c p =
+      λ p. ap {B = Bool} (λ t. elim t [ Some b ↦ claimed o m colours at (row before) b p | None ↦ false ]) says
+      in
+      rw is (row_same width _ _ (λ p l. claimed_read c after p l ∙ sym (claims p)))

@@ -1,0 +1,94 @@
+// Where a question is answered: at each node, or at each role by its head.
+ghost use Rattle.std.specs.Prelude.{◌≡◌, ℕ, ◌<◌, ◌≤◌, length};
+ghost use Rattle.arrayvec.specs.ArrayVec.{array_vec_len};
+ghost use Rattle.question.specs.Truth.{each_node, each_role};
+ghost use Rattle.question.specs.Truth as truth;
+ghost use Rattle.session.specs.Roles.{head_at};
+ghost use Rattle.session.specs.Tables.{role_in};
+
+use super::table::Table;
+
+pub(crate) trait Places {
+    // Of how many nodes it has the places, and how many places there are.
+    ghost nodes: { Self → ℕ };
+
+    ghost width: { Self → ℕ };
+
+    ghost places: { Self → truth.Places };
+
+    fn width(&self) -> usize
+        ensures value { result ≡ width self.now }
+        ensures few { result ≤ 128 };
+
+    // The node that stands at place p.
+    fn node(&self, p: usize) -> usize
+        requires { p < width self.now }
+        ensures value { result ≡ (places self.now).node p }
+        ensures known { result < 128 };
+
+    // The place of node y.
+    fn place(&self, y: usize) -> usize
+        requires { y < nodes self.now }
+        ensures value { result ≡ (places self.now).place y }
+        ensures known { result < width self.now };
+
+    ghost known: { (s : Self) (y : ℕ) → y < nodes s → (places s).place y < width s };
+}
+
+// Each of so many nodes is a place of its own.
+#[derive(Clone, Copy)]
+pub(crate) struct EachNode {
+    nodes: usize,
+    ghost few: { nodes ≤ 128 },
+}
+
+impl EachNode {
+    pub(crate) fn of(nodes: usize) -> EachNode
+        requires { nodes ≤ 128 }
+        ensures { result.nodes ≡ nodes }
+    {
+        EachNode { nodes }
+    }
+}
+
+impl Places for EachNode {
+    ghost nodes = { λ e. e.nodes };
+
+    ghost width = { λ e. e.nodes };
+
+    ghost places = { λ _. each_node };
+    ghost known = { λ e y node. node };
+
+    fn width(&self) -> usize {
+        self.nodes
+    }
+
+    fn node(&self, p: usize) -> usize {
+        p
+    }
+
+    fn place(&self, y: usize) -> usize {
+        y
+    }
+}
+
+impl Places for Table {
+    ghost nodes = { λ t. length t.role_of.items };
+
+    ghost width = { λ t. array_vec_len t.roles };
+
+    ghost places = { λ t. each_role (role_in t) (head_at t.roles.items) };
+    ghost known = { λ t. t.kept.ranged };
+
+    fn width(&self) -> usize {
+        self.count()
+    }
+
+    fn node(&self, p: usize) -> usize {
+        self.role(p).head
+    }
+
+    fn place(&self, y: usize) -> usize {
+        self.role_of(y)
+    }
+}
