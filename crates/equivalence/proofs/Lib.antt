@@ -1,5 +1,6 @@
 pub mod Gathering
 pub mod Firsts
+pub mod Lowest
 pub mod Unions
 pub mod Refinement
 pub mod Parting
