@@ -3,6 +3,8 @@ pub mod Firsts
 pub mod Lowest
 pub mod Unions
 pub mod Refinement
+pub mod Stable
+pub mod Levels
 pub mod Parting
 pub mod Balance
 pub mod Verdicts
