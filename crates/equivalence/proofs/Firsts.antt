@@ -7,7 +7,7 @@ use mathlib.Core.Bool.{or_comm}
 use Rattle.equivalence.specs.Regular.{Table, Heads, mates}
 use Rattle.equivalence.specs.Coarsest.{first, some_below}
 
-some_below_decides : (p : ℕ → Bool) (n : ℕ) → Decides (some_below p n) ((k : ℕ) × (k < n) × (p k ≡ true))
+pub some_below_decides : (p : ℕ → Bool) (n : ℕ) → Decides (some_below p n) ((k : ℕ) × (k < n) × (p k ≡ true))
 some_below_decides p =
     Decides-below_or p (λ k. p k ≡ true) (some_below p) (λ k. (λ e. e, λ e. e)) refl (λ n. or_comm (some_below p n) (p n))
 

@@ -1,7 +1,10 @@
 pub mod Gathering
 pub mod Firsts
+pub mod Lowest
 pub mod Unions
 pub mod Refinement
+pub mod Stable
+pub mod Levels
 pub mod Parting
 pub mod Balance
 pub mod Verdicts

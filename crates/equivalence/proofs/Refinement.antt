@@ -1,5 +1,5 @@
 -- From the starting classes by splits to the coarsest regular table within them. Assumes nothing.
-use Rattle.std.proofs.Common.{◌≡◌, ℕ, ◌<◌, ◌≤◌, eqb, sym, ap, subst, arith}
+use Rattle.std.proofs.Common.{◌≡◌, ℕ, ◌<◌, ◌≤◌, true, eqb, sym, ap, subst, arith}
 use Rattle.network.specs.Meaning.{Meaning}
 use Rattle.network.proofs.Counting.{count_below_inject}
 use Rattle.measure.specs.Measures.{Operations, Laws}
@@ -10,11 +10,11 @@ use Rattle.equivalence.proofs.Firsts.{first_decides}
 use Rattle.equivalence.proofs.Unions.{balanced_union}
 
 -- a first node of the coarser table is one of the finer
+pub first_finer : (n : ℕ) (fine coarse : Table) → Refines n fine coarse → (k : ℕ) → k < n → first coarse k ≡ true → first fine k ≡ true
+first_finer n fine coarse refines k l f = (first_decides fine k).1 (λ j under e. (first_decides coarse k).0 f j under (refines j k (omega arith) l e))
+
 pub roles_le : (n : ℕ) (fine coarse : Table) → Refines n fine coarse → roles coarse n ≤ roles fine n
-roles_le n fine coarse refines =
-    count_below_inject (first coarse) (first fine) n n (λ k. k)
-    (λ k l f. (l, (first_decides fine k).1 (λ j under e. (first_decides coarse k).0 f j under (refines j k (omega arith) l e))))
-    (λ j k _ _ _ _ e. e)
+roles_le n fine coarse refines = count_below_inject (first coarse) (first fine) n n (λ k. k) (λ k l f. (l, first_finer n fine coarse refines k l f)) (λ j k _ _ _ _ e. e)
 
 module _ {V : Type 0} (o : Operations V) (m : Meaning) where
   pub between_start : (classes role : Table) → Refines m.nodes role classes → Refines m.nodes classes role → Between o m classes role

@@ -7,3 +7,4 @@ pub mod Splitting
 pub mod Classical
 pub mod Multiplex
 pub mod Equitable
+pub mod Levels
