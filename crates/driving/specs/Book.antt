@@ -1,0 +1,23 @@
+-- The book of a session: what its calls make of ties and colours. Assumes nothing.
+--
+--   Book           a network, and the colour of each node
+--   opened         the book at the making: what the network means, and every colour 0
+--   after_put      the book after a put: as the network's put, refused or not
+--   after_colour   the book after a colour: node i has colour c; as before, where it is none
+use Rattle.std.specs.Prelude.{ℕ, cond, ◌&&◌, ◌==◌, nat_lt}
+use Rattle.network.specs.Meaning.{Meaning}
+use Rattle.network.specs.Put.{put_after}
+use Rattle.equivalence.specs.Regular.{Table}
+
+pub record Book : Type 0 where
+  pub network : Meaning
+  pub colours : Table
+
+abbrev pub opened : Meaning → Book
+opened m = record { network = m; colours = λ _. 0 }
+
+abbrev pub after_put : Book → ℕ → ℕ → ℕ → Book
+after_put book i j b = record { network = put_after book.network i j b; colours = book.colours }
+
+abbrev pub after_colour : Book → ℕ → ℕ → Book
+after_colour book i c = record { network = book.network; colours = λ x. cond (nat_lt i book.network.nodes && x == i) c (book.colours x) }
