@@ -1,8 +1,9 @@
 -- What a check that passes tells of each line. Assumes nothing.
-use Rattle.std.proofs.Common.{◌≡◌, ℕ, zero, suc, ◌+◌, ◌<◌, Bool, true, false, cond, List, [], ◌∷◌, length, get_or, Option, Some, None, Result, Ok, Err, refl, ap, ◌∙◌, sym, rules, arith}
+use Rattle.std.proofs.Common.{◌≡◌, ℕ, zero, suc, ◌+◌, ◌-◌, ◌*◌, ◌<◌, ◌||◌, eqb, ltb, Bool, true, false, cond, List, [], ◌∷◌, length, get_or, Option, Some, None, Result, Ok, Err, refl, ap, ◌∙◌, sym, rules, arith}
 use Rattle.std.specs.Option.{IsSome}
 use Rattle.question.specs.Lines.{claim, earlier}
-use Rattle.question.specs.Checks.{line_check, lines_check}
+use Rattle.std.proofs.lemmas.Bool.Decides.{nat_tests}
+use Rattle.question.specs.Checks.{line_check, lines_check, answer_start}
 use Rattle.question.specs.declared.line.Line.{Line}
 use Rattle.question.specs.declared.line.Claim.{Claim}
 use Rattle.question.specs.declared.faults.Fault.{Fault}
@@ -39,3 +40,15 @@ module _ (lines : List Line) (passed : lines_check 0 lines ≡ Ok tt) (k : ℕ) 
 
   pub earlier_claim : (c : Claim) → claim (get_or lines k d) ≡ Some c → earlier k c ≡ true
   earlier_claim c e = let (b, says, after) = passes in let same : b ≡ c = ap {B = Claim} (λ o. elim o [ Some x ↦ x | None ↦ b ]) (sym says ∙ e) in rw same at after
+
+accepted_by : (b c : Bool) (r : Result (Unit {0}) Fault) (at start : ℕ) → ◌≡◌ {A = Result ℕ Fault} (cond b (Err Fault.Lines) (elim r [ Ok _ ↦ cond c (Err Fault.Area) (Ok at) | Err f ↦ Err f ])) (Ok start) → (b ≡ false) × (at ≡ start)
+accepted_by true c r at start e = absurd (search rules)
+accepted_by false c (Err f) at start e = absurd (search rules)
+accepted_by false true (Ok tt) at start e = absurd (search rules)
+accepted_by false false (Ok tt) at start e = (refl, ap {B = ℕ} (λ r. elim r [ Ok k ↦ k | Err f ↦ 0 ]) e)
+
+-- of an accepted question, there is a last line, and its row starts here
+pub accepted : (lines : List Line) (width size start : ℕ) → answer_start lines width size ≡ Ok start → (0 < length lines) × (length lines * width - width ≡ start)
+accepted lines width size start e =
+    let (some, at) = accepted_by (eqb (length lines) 0 || ltb 32 (length lines)) (ltb size (length lines * width)) (lines_check 0 lines) (length lines * width - width) start e in
+    (grind (arith, nat_tests), at)

@@ -5,11 +5,12 @@
 --   claimed        a claim at a place, by what the lines before it are told to be there
 --   line_row       the row of a line, likewise
 --   rows           the rows of all lines, one after another
+--   answer         what the last line is true of
 --   each_node      every node is a place of its own
 --   each_role      every role is a place, and its head stands for its nodes
 --
 -- Look's rows are `rows` at each node, and ask's are `rows` at each role: there a line that is named is read as all nodes of its true roles.
-use Rattle.std.specs.Prelude.{ℕ, Bool, false, not, ◌&&◌, ◌==◌, List, [], ◌∷◌, ◌++◌, slice_index_or, fold, Some, None}
+use Rattle.std.specs.Prelude.{ℕ, ◌-◌, Bool, false, not, ◌&&◌, ◌==◌, List, [], ◌∷◌, ◌++◌, length, slice_index_or, fold, Some, None}
 use Rattle.network.specs.Meaning.{Meaning}
 use Rattle.measure.specs.Measures.{Operations}
 use Rattle.equivalence.specs.Totals.{total}
@@ -39,6 +40,9 @@ module _ {V : Type 0} (o : Operations V) (m : Meaning) (colours : Table) (at : P
 
   abbrev pub rows : List Line → List (ℕ → Bool)
   rows lines = fold (λ before line. before ++ line_row (row before) line ∷ []) [] lines
+
+  abbrev pub answer : List Line → ℕ → Bool
+  answer lines = row (rows lines) (length lines - 1)
 
 abbrev pub each_node : Places
 each_node = record { node = λ p. p; place = λ y. y }

@@ -10,7 +10,7 @@ use Rattle.equivalence.specs.Coarsest.{Between, roles}
 use Rattle.equivalence.proofs.Refinement.{roles_le, between_start}
 use Rattle.session.specs.Roles.{Described, record_at}
 use Rattle.session.specs.Sessions.{Starting}
-use Rattle.session.specs.Tables.{class_in, role_in}
+use Rattle.session.specs.Tables.{class_in, head_in, role_in}
 use Rattle.session.specs.declared.table.Table.{Table as RoleTable}
 use Rattle.session.proofs.Counted.{counted}
 
@@ -28,6 +28,12 @@ module _ (t : RoleTable) where
 
     pub described : (r : ℕ) → r < length t.roles.items → Described n (role_in t) r (record_at t.roles.items r)
     described r known = rw fits at (t.kept.described r known)
+
+    -- the head of a node's role is a node of it
+    pub role_head : (x : ℕ) → x < n → (head_in t (role_in t x) < n) × (role_in t (head_in t (role_in t x)) ≡ role_in t x)
+    role_head x l =
+        let told = described (role_in t x) (t.kept.ranged x (omega (arith, fits))) in
+        (told.node, told.mate)
 
   -- at the starting classes, no role was split
   pub counted_start : (n : ℕ) (classes : Table) → length t.role_of.items ≡ n → Starting n classes (role_in t) → t.splits ≡ 0 → t.splits + roles classes n ≡ length t.roles.items

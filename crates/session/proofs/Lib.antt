@@ -3,6 +3,7 @@ pub mod Records
 pub mod Writes
 pub mod Searches
 pub mod Rows
+pub mod Asked
 pub mod Ranges
 pub mod Starts
 pub mod Parts

@@ -33,7 +33,7 @@ module _ (width : ℕ) where
   length_rows [] = omega arith
   length_rows (r ∷ rows) = length-append (row_bytes width r) (flat_map (row_bytes width) rows) ∙ rw suc-mul (omega (arith, length_row r, length_rows rows))
 
-  read_row : (rows : List (ℕ → Bool)) (k p : ℕ) → k < length rows → p < width → get_or (flat_map (row_bytes width) rows) (k * width + p) 0 ≡ cond (row rows k p) 1 0
+  pub read_row : (rows : List (ℕ → Bool)) (k p : ℕ) → k < length rows → p < width → get_or (flat_map (row_bytes width) rows) (k * width + p) 0 ≡ cond (row rows k p) 1 0
   read_row [] k p lk lp = absurd (omega arith)
   read_row (r ∷ rows) zero p lk lp =
       let at : 0 * width + p ≡ p = omega arith in

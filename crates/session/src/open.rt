@@ -15,8 +15,10 @@ use network::interface::Editable;
 mod telling;
 // The search for a split.
 mod stepping;
-// What a question is true of.
+// What a question is true of, row by row.
 mod answering;
+// Look, and ask for a settled session.
+mod looking;
 
 // Put alters ties, colour alters colours, and either brings the table back to the starting classes where it is accepted.
 #[derive(Drop)]

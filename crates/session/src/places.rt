@@ -3,8 +3,7 @@ ghost use Rattle.std.specs.Prelude.{◌≡◌, ℕ, ◌<◌, ◌≤◌, length};
 ghost use Rattle.arrayvec.specs.ArrayVec.{array_vec_len};
 ghost use Rattle.question.specs.Truth.{each_node, each_role};
 ghost use Rattle.question.specs.Truth as truth;
-ghost use Rattle.session.specs.Roles.{head_at};
-ghost use Rattle.session.specs.Tables.{role_in};
+ghost use Rattle.session.specs.Tables.{head_in, role_in};
 
 use super::table::Table;
 
@@ -57,6 +56,7 @@ impl Places for EachNode {
     ghost width = { λ e. e.nodes };
 
     ghost places = { λ _. each_node };
+
     ghost known = { λ e y node. node };
 
     fn width(&self) -> usize {
@@ -77,7 +77,8 @@ impl Places for Table {
 
     ghost width = { λ t. array_vec_len t.roles };
 
-    ghost places = { λ t. each_role (role_in t) (head_at t.roles.items) };
+    ghost places = { λ t. each_role (role_in t) (head_in t) };
+
     ghost known = { λ t. t.kept.ranged };
 
     fn width(&self) -> usize {

@@ -12,6 +12,9 @@ use super::step::Step;
 use measure::interface::Measure;
 use network::interface::Editable;
 
+// Look and ask.
+mod asking;
+
 // The session, of which nothing can be altered until it is open again.
 #[derive(Drop)]
 pub struct Settled<N: Editable, M: Measure> {

@@ -105,4 +105,20 @@ impl<N: Editable, M: Measure> Open<N, M> {
             self.write_row(places, claim, rows, &mut rest[..width]);
         }
     }
+
+    // Answers a question at these places, or refuses it.
+    pub(crate) fn answer<P: Places>(
+        &self,
+        places: &P,
+        question: &[Line],
+        area: &mut [u8],
+    ) -> Result<usize, Fault>
+        requires { P.nodes places.now ≡ (N.Readable.meaning self.now.network).nodes }
+        ensures start { result ≡ answer_start question.now (P.width places.now) (length area.old) }
+        ensures area { area.new ≡ area_after result (P.width places.now) (rows M.Measure.ops (N.Readable.meaning self.now.network) (class_in self.now.table) (P.places places.now) question.now) area.old }
+    {
+        let start = check(question, places.width(), area.len())?;
+        self.write_rows(places, question, area);
+        Ok(start)
+    }
 }

@@ -1,0 +1,45 @@
+-- What the last row of an area says. Assumes nothing.
+use Rattle.std.proofs.Common.{◌≡◌, ℕ, ◌+◌, ◌-◌, ◌*◌, ◌<◌, Bool, cond, List, ◌++◌, length, get_or, drop, flat_map, slice_index, Result, Ok, Err, IfOk, ap, sym, ◌∙◌, suc-mul, arith}
+use Rattle.std.proofs.Math.Nat.{mul-le-mul_right}
+use Rattle.std.proofs.lemmas.List.{get_or_append_left}
+use Rattle.network.specs.Meaning.{Meaning}
+use Rattle.measure.specs.Measures.{Operations, Laws}
+use Rattle.equivalence.specs.Regular.{Table, Regular}
+use Rattle.equivalence.specs.Coarsest.{Refines}
+use Rattle.question.specs.Checks.{answer_start}
+use Rattle.question.specs.Truth.{row, rows, answer, each_node, each_role}
+use Rattle.question.specs.Areas.{row_bytes, area_after}
+use Rattle.question.specs.declared.line.Line.{Line}
+use Rattle.question.specs.declared.faults.Fault.{Fault}
+use Rattle.question.proofs.Checked.{accepted}
+use Rattle.question.proofs.Rowing as rowing
+use Rattle.question.proofs.Agreement.{roles_answer}
+use Rattle.session.proofs.Rows.{read_row, length_rows}
+
+last_row : (width : ℕ) (told : List (ℕ → Bool)) (rest : List ℕ) (n p : ℕ) → length told ≡ n → 0 < n → p < width → get_or (flat_map (row_bytes width) told ++ rest) (n * width - width + p) 0 ≡ cond (row told (n - 1) p) 1 0
+last_row width told rest n p count some l =
+    let one_less : (n - 1) * width + width ≡ n * width = sym (suc-mul (n - 1) width) ∙ ap (λ k. k * width) (omega arith) in
+    let at : n * width - width + p ≡ (n - 1) * width + p = omega (arith, one_less) in
+    rw at
+    (get_or_append_left (flat_map (row_bytes width) told) rest 0 ((n - 1) * width + p) (omega (arith, length_rows width told, ap (λ k. k * width) count, one_less))
+    ∙ read_row width told (n - 1) p (omega arith) l)
+
+-- each node's role has the answer that the network has for the node
+pub ask_agrees :
+    {V : Type 0} (o : Operations V) (laws : Laws o) (m : Meaning) (colours role : Table) (head : ℕ → ℕ) (width : ℕ)
+    → Regular o m role
+    → Refines m.nodes role colours
+    → ((x : ℕ) → x < m.nodes → (head (role x) < m.nodes) × (role (head (role x)) ≡ role x))
+    → ((x : ℕ) → x < m.nodes → role x < width)
+    → (lines : List Line) (old new : List ℕ) (r : Result ℕ Fault)
+    → r ≡ answer_start lines width (length old)
+    → new ≡ area_after r width (rows o m colours (each_role role head) lines) old
+    → IfOk r (λ start. (x : ℕ) → x < m.nodes → slice_index new (start + role x) ≡ cond (answer o m colours each_node lines x) 1 0)
+ask_agrees o laws m colours role head width regular within heads ranged lines old new (Err f) is after = tt
+ask_agrees o laws m colours role head width regular within heads ranged lines old new (Ok start) is after =
+    λ x l.
+    let (some, at) = accepted lines width (length old) start (sym is) in
+    let asked = rows o m colours (each_role role head) lines in
+    rw (after, sym at)
+    (last_row width asked _ (length lines) (role x) (rowing.length_rows o m colours (each_role role head) lines) some (ranged x l)
+    ∙ ap {B = ℕ} (λ b. cond b 1 0) (roles_answer o laws m colours role head regular within heads lines (length lines - 1) x l))

@@ -1,0 +1,13 @@
+use Rattle.std.proofs.Common.{arith}
+use Rattle.session.specs.Tables.{class_in, head_in, role_in}
+use Rattle.session.proofs.Asked.{ask_agrees}
+use Rattle.session.proofs.Keeping.{role_lt, role_head}
+use Rattle.session.proofs.settled.Settled.ask.Goals as goal
+
+pub returns-clause-network : goal.returns-clause-network
+returns-clause-network g c =
+    let s = c.args.self.now.session in
+    let m = g.N.Readable.meaning s.network in
+    ask_agrees g.M.Measure.ops g.met.M.Measure.lawful m (class_in s.table) (role_in s.table) (head_in s.table) _
+    c.args.self.now.regular s.between.within (role_head s.table m.nodes s.fits) (role_lt s.table m.nodes s.fits)
+    c.args.question.now c.args.area.now c.ask.new.area c.ask.result c.ask.ensures.start c.ask.ensures.area
