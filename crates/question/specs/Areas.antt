@@ -2,8 +2,17 @@
 --
 --   row_bytes     a row of this width: 1 where it is true, 0 where it is not
 --   area_after    the rows one after another, and then what the area held; all that it held, where the question is refused
+--   looked        the area after look: each node is asked
+--   asked         the area after ask: each role of a table is asked, through its head
 use Rattle.std.specs.Prelude.{ℕ, ◌*◌, Bool, cond, List, ◌++◌, length, map, drop, flat_map, Result, Ok, Err}
 use Rattle.std.specs.List.{range_with_len}
+use Rattle.network.specs.Meaning.{Meaning}
+use Rattle.measure.specs.Measures.{Operations}
+use Rattle.equivalence.specs.Regular.{Table}
+use Rattle.equivalence.specs.Coarsest.{roles}
+use Rattle.question.specs.Checks.{answer_start}
+use Rattle.question.specs.Truth.{rows, each_node, each_role}
+use Rattle.question.specs.declared.line.Line.{Line}
 use Rattle.question.specs.declared.faults.Fault.{Fault}
 
 abbrev pub row_bytes : ℕ → (ℕ → Bool) → List ℕ
@@ -11,3 +20,12 @@ row_bytes width row = map (λ p. cond (row p) 1 0) (range_with_len 0 width)
 
 abbrev pub area_after : Result ℕ Fault → ℕ → List (ℕ → Bool) → List ℕ → List ℕ
 area_after start width rows area = elim start [ Ok _ ↦ flat_map (row_bytes width) rows ++ drop (length rows * width) area | Err _ ↦ area ]
+
+module _ {V : Type 0} (o : Operations V) (m : Meaning) (colours : Table) where
+  abbrev pub looked : List Line → List ℕ → List ℕ
+  looked lines area = area_after (answer_start lines m.nodes (length area)) m.nodes (rows o m colours each_node lines) area
+
+  abbrev pub asked : Table → (ℕ → ℕ) → List Line → List ℕ → List ℕ
+  asked role head lines area =
+      let width = roles role m.nodes in
+      area_after (answer_start lines width (length area)) width (rows o m colours (each_role role head) lines) area

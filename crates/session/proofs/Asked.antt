@@ -5,10 +5,10 @@ use Rattle.std.proofs.lemmas.List.{get_or_append_left}
 use Rattle.network.specs.Meaning.{Meaning}
 use Rattle.measure.specs.Measures.{Operations, Laws}
 use Rattle.equivalence.specs.Regular.{Table, Regular}
-use Rattle.equivalence.specs.Coarsest.{Refines}
+use Rattle.equivalence.specs.Coarsest.{Refines, roles}
 use Rattle.question.specs.Checks.{answer_start}
 use Rattle.question.specs.Truth.{row, rows, answer, each_node, each_role}
-use Rattle.question.specs.Areas.{row_bytes, area_after}
+use Rattle.question.specs.Areas.{row_bytes, asked}
 use Rattle.question.specs.declared.line.Line.{Line}
 use Rattle.question.specs.declared.faults.Fault.{Fault}
 use Rattle.question.proofs.Checked.{accepted}
@@ -26,20 +26,21 @@ last_row width told rest n p count some l =
 
 -- each node's role has the answer that the network has for the node
 pub ask_agrees :
-    {V : Type 0} (o : Operations V) (laws : Laws o) (m : Meaning) (colours role : Table) (head : ℕ → ℕ) (width : ℕ)
+    {V : Type 0} (o : Operations V) (laws : Laws o) (m : Meaning) (colours role : Table) (head : ℕ → ℕ)
     → Regular o m role
     → Refines m.nodes role colours
     → ((x : ℕ) → x < m.nodes → (head (role x) < m.nodes) × (role (head (role x)) ≡ role x))
-    → ((x : ℕ) → x < m.nodes → role x < width)
+    → ((x : ℕ) → x < m.nodes → role x < roles role m.nodes)
     → (lines : List Line) (old new : List ℕ) (r : Result ℕ Fault)
-    → r ≡ answer_start lines width (length old)
-    → new ≡ area_after r width (rows o m colours (each_role role head) lines) old
+    → r ≡ answer_start lines (roles role m.nodes) (length old)
+    → new ≡ asked o m colours role head lines old
     → IfOk r (λ start. (x : ℕ) → x < m.nodes → slice_index new (start + role x) ≡ cond (answer o m colours each_node lines x) 1 0)
-ask_agrees o laws m colours role head width regular within heads ranged lines old new (Err f) is after = tt
-ask_agrees o laws m colours role head width regular within heads ranged lines old new (Ok start) is after =
+ask_agrees o laws m colours role head regular within heads ranged lines old new (Err f) is after = tt
+ask_agrees o laws m colours role head regular within heads ranged lines old new (Ok start) is after =
     λ x l.
+    let width = roles role m.nodes in
     let (some, at) = accepted lines width (length old) start (sym is) in
-    let asked = rows o m colours (each_role role head) lines in
-    rw (after, sym at)
-    (last_row width asked _ (length lines) (role x) (rowing.length_rows o m colours (each_role role head) lines) some (ranged x l)
+    let told = rows o m colours (each_role role head) lines in
+    rw (after, sym is, sym at)
+    (last_row width told _ (length lines) (role x) (rowing.length_rows o m colours (each_role role head) lines) some (ranged x l)
     ∙ ap {B = ℕ} (λ b. cond b 1 0) (roles_answer o laws m colours role head regular within heads lines (length lines - 1) x l))

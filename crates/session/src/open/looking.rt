@@ -2,8 +2,7 @@
 ghost use Rattle.std.specs.Prelude.{◌≡◌, length};
 ghost use Rattle.equivalence.specs.Coarsest.{roles};
 ghost use Rattle.question.specs.Checks.{answer_start};
-ghost use Rattle.question.specs.Truth.{each_node, each_role, rows};
-ghost use Rattle.question.specs.Areas.{area_after};
+ghost use Rattle.question.specs.Areas.{asked, looked};
 ghost use Rattle.session.specs.Tables.{class_in, head_in, role_in};
 
 use super::super::places::EachNode;
@@ -17,7 +16,7 @@ impl<N: Editable, M: Measure> Open<N, M> {
     // Asks each node, on the whole network: a row of n bytes for each line. Tells where the last row starts.
     pub fn look(&self, question: &[Line], area: &mut [u8]) -> Result<usize, Fault>
         ensures start { result ≡ answer_start question.now (N.Readable.meaning self.now.network).nodes (length area.old) }
-        ensures area { area.new ≡ area_after result (N.Readable.meaning self.now.network).nodes (rows M.Measure.ops (N.Readable.meaning self.now.network) (class_in self.now.table) each_node question.now) area.old }
+        ensures area { area.new ≡ looked M.Measure.ops (N.Readable.meaning self.now.network) (class_in self.now.table) question.now area.old }
     {
         self.answer(&EachNode::of(self.table.nodes()), question, area)
     }
@@ -26,7 +25,7 @@ impl<N: Editable, M: Measure> Open<N, M> {
     #[tactic(auto, using(crate::proofs::Keeping::numbered))]
     pub(crate) fn ask(&self, question: &[Line], area: &mut [u8]) -> Result<usize, Fault>
         ensures start { result ≡ answer_start question.now (roles (role_in self.now.table) (N.Readable.meaning self.now.network).nodes) (length area.old) }
-        ensures area { area.new ≡ area_after result (roles (role_in self.now.table) (N.Readable.meaning self.now.network).nodes) (rows M.Measure.ops (N.Readable.meaning self.now.network) (class_in self.now.table) (each_role (role_in self.now.table) (head_in self.now.table)) question.now) area.old }
+        ensures area { area.new ≡ asked M.Measure.ops (N.Readable.meaning self.now.network) (class_in self.now.table) (role_in self.now.table) (head_in self.now.table) question.now area.old }
     {
         self.answer(&self.table, question, area)
     }

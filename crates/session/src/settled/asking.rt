@@ -2,8 +2,8 @@
 ghost use Rattle.std.specs.Prelude.{◌≡◌, ℕ, ◌+◌, ◌<◌, cond, length, slice_index, IfOk};
 ghost use Rattle.equivalence.specs.Coarsest.{roles};
 ghost use Rattle.question.specs.Checks.{answer_start};
-ghost use Rattle.question.specs.Truth.{answer, each_node, each_role, rows};
-ghost use Rattle.question.specs.Areas.{area_after};
+ghost use Rattle.question.specs.Truth.{answer, each_node};
+ghost use Rattle.question.specs.Areas.{asked, looked};
 ghost use Rattle.session.specs.Tables.{class_in, head_in, role_in};
 
 use super::Settled;
@@ -16,7 +16,7 @@ impl<N: Editable, M: Measure> Settled<N, M> {
     // Asks each node, on the whole network, as an open session does.
     pub fn look(&self, question: &[Line], area: &mut [u8]) -> Result<usize, Fault>
         ensures start { result ≡ answer_start question.now (N.Readable.meaning self.now.session.network).nodes (length area.old) }
-        ensures area { area.new ≡ area_after result (N.Readable.meaning self.now.session.network).nodes (rows M.Measure.ops (N.Readable.meaning self.now.session.network) (class_in self.now.session.table) each_node question.now) area.old }
+        ensures area { area.new ≡ looked M.Measure.ops (N.Readable.meaning self.now.session.network) (class_in self.now.session.table) question.now area.old }
     {
         self.session.look(question, area)
     }
@@ -25,7 +25,7 @@ impl<N: Editable, M: Measure> Settled<N, M> {
     // There each node's role has the answer that `look` has for the node.
     pub fn ask(&self, question: &[Line], area: &mut [u8]) -> Result<usize, Fault>
         ensures start { result ≡ answer_start question.now (roles (role_in self.now.session.table) (N.Readable.meaning self.now.session.network).nodes) (length area.old) }
-        ensures area { area.new ≡ area_after result (roles (role_in self.now.session.table) (N.Readable.meaning self.now.session.network).nodes) (rows M.Measure.ops (N.Readable.meaning self.now.session.network) (class_in self.now.session.table) (each_role (role_in self.now.session.table) (head_in self.now.session.table)) question.now) area.old }
+        ensures area { area.new ≡ asked M.Measure.ops (N.Readable.meaning self.now.session.network) (class_in self.now.session.table) (role_in self.now.session.table) (head_in self.now.session.table) question.now area.old }
         ensures network { IfOk result (λ start. (x : ℕ) → x < (N.Readable.meaning self.now.session.network).nodes → slice_index area.new (start + role_in self.now.session.table x) ≡ cond (answer M.Measure.ops (N.Readable.meaning self.now.session.network) (class_in self.now.session.table) each_node question.now x) 1 0) }
     {
         self.session.ask(question, area)

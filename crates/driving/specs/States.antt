@@ -1,0 +1,25 @@
+-- The state of a session that takes calls. Assumes nothing.
+--
+--   is_open      it is open
+--   open_in      the open session, or the one that has settled
+--   book_of      its ties and colours
+use Rattle.std.specs.Prelude.{Bool, true, false}
+use Rattle.network.specs.declared.interface.Readable as readable
+use Rattle.measure.specs.declared.interface.Measure as measure
+use Rattle.session.specs.declared.open.Open as opened
+use Rattle.session.specs.Tables.{class_in}
+use Rattle.driving.specs.Book.{Book}
+use Rattle.driving.specs.declared.state.Session.{Session}
+use Rattle.driving.specs.declared.state.Session.TheVariants.{Open, Settled}
+
+module _ {N M V : Type 0} {r : readable.Ghosts N} {o : measure.Ghosts M V} where
+  abbrev pub is_open : Session N M V r o → Bool
+  is_open (Open s) = true
+  is_open (Settled s) = false
+
+  abbrev pub open_in : Session N M V r o → opened.Open N M V r o
+  open_in (Open s) = s
+  open_in (Settled s) = s.session
+
+  abbrev pub book_of : Session N M V r o → Book
+  book_of s = record { network = r.meaning (open_in s).network; colours = class_in (open_in s).table }

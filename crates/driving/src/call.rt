@@ -1,0 +1,41 @@
+// The calls of a session, and what they reply.
+use network::faults::Fault as NetworkFault;
+use question::faults::Fault as QuestionFault;
+use question::line::Line;
+use session::faults::Fault as SessionFault;
+use session::role::Role;
+use session::step::Step;
+
+// A call, with its arguments.
+#[derive(Clone, Copy)]
+pub enum Call<'a> {
+    Put(usize, usize, u8),
+    Colour(usize, u8),
+    Step,
+    Settle,
+    Reopen,
+    Look(&'a [Line]),
+    Ask(&'a [Line]),
+    Roles,
+    Splits,
+    RoleOf(usize),
+    Role(usize),
+}
+
+// What a call replies.
+#[derive(Clone, Copy, PartialEq, Eq, Debug)]
+pub enum Reply {
+    Put(Result<(), NetworkFault>),
+    Colour(Result<(), SessionFault>),
+    Step(Step),
+    Settled,
+    Reopened,
+    Look(Result<usize, QuestionFault>),
+    Ask(Result<usize, QuestionFault>),
+    Roles(usize),
+    Splits(usize),
+    RoleOf(Result<usize, SessionFault>),
+    Role(Result<Role, SessionFault>),
+    // A session in this state does not take the call: it was not given it.
+    NotTaken,
+}
