@@ -1,2 +1,4 @@
 pub mod Book
 pub mod States
+pub mod Turns
+pub mod Promise

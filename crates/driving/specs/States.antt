@@ -1,8 +1,9 @@
 -- The state of a session that takes calls. Assumes nothing.
 --
---   is_open      it is open
+--   is_settled   it has settled
 --   open_in      the open session, or the one that has settled
---   book_of      its ties and colours
+--   book_in      the ties and colours of an open session
+--   book_of      those of a session that takes calls
 use Rattle.std.specs.Prelude.{Bool, true, false}
 use Rattle.network.specs.declared.interface.Readable as readable
 use Rattle.measure.specs.declared.interface.Measure as measure
@@ -13,13 +14,16 @@ use Rattle.driving.specs.declared.state.Session.{Session}
 use Rattle.driving.specs.declared.state.Session.TheVariants.{Open, Settled}
 
 module _ {N M V : Type 0} {r : readable.Ghosts N} {o : measure.Ghosts M V} where
-  abbrev pub is_open : Session N M V r o → Bool
-  is_open (Open s) = true
-  is_open (Settled s) = false
+  abbrev pub is_settled : Session N M V r o → Bool
+  is_settled (Open s) = false
+  is_settled (Settled s) = true
 
   abbrev pub open_in : Session N M V r o → opened.Open N M V r o
   open_in (Open s) = s
   open_in (Settled s) = s.session
 
+  abbrev pub book_in : opened.Open N M V r o → Book
+  book_in s = record { network = r.meaning s.network; colours = class_in s.table }
+
   abbrev pub book_of : Session N M V r o → Book
-  book_of s = record { network = r.meaning (open_in s).network; colours = class_in (open_in s).table }
+  book_of s = book_in (open_in s)

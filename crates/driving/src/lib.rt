@@ -4,7 +4,9 @@
 
 // The calls, and what they reply.
 pub mod call;
-// A session that is given calls.
+// A session, open or settled, that takes calls in turn.
 pub mod state;
+// A whole list of calls, and the promise.
+pub mod drive;
 // The small networks with known tables.
 pub mod known;

@@ -8,7 +8,7 @@ use Rattle.equivalence.specs.Regular.{Table, Regular}
 use Rattle.equivalence.specs.Coarsest.{Refines, roles}
 use Rattle.question.specs.Checks.{answer_start}
 use Rattle.question.specs.Truth.{row, rows, answer, each_node, each_role}
-use Rattle.question.specs.Areas.{row_bytes, asked}
+use Rattle.question.specs.Areas.{row_bytes, looked, asked}
 use Rattle.question.specs.declared.line.Line.{Line}
 use Rattle.question.specs.declared.faults.Fault.{Fault}
 use Rattle.question.proofs.Checked.{accepted}
@@ -24,23 +24,43 @@ last_row width told rest n p count some l =
     (get_or_append_left (flat_map (row_bytes width) told) rest 0 ((n - 1) * width + p) (omega (arith, length_rows width told, ap (λ k. k * width) count, one_less))
     ∙ read_row width told (n - 1) p (omega arith) l)
 
--- each node's role has the answer that the network has for the node
-pub ask_agrees :
-    {V : Type 0} (o : Operations V) (laws : Laws o) (m : Meaning) (colours role : Table) (head : ℕ → ℕ)
-    → Regular o m role
-    → Refines m.nodes role colours
-    → ((x : ℕ) → x < m.nodes → (head (role x) < m.nodes) × (role (head (role x)) ≡ role x))
-    → ((x : ℕ) → x < m.nodes → role x < roles role m.nodes)
-    → (lines : List Line) (old new : List ℕ) (r : Result ℕ Fault)
-    → r ≡ answer_start lines (roles role m.nodes) (length old)
-    → new ≡ asked o m colours role head lines old
-    → IfOk r (λ start. (x : ℕ) → x < m.nodes → slice_index new (start + role x) ≡ cond (answer o m colours each_node lines x) 1 0)
-ask_agrees o laws m colours role head regular within heads ranged lines old new (Err f) is after = tt
-ask_agrees o laws m colours role head regular within heads ranged lines old new (Ok start) is after =
-    λ x l.
-    let width = roles role m.nodes in
-    let (some, at) = accepted lines width (length old) start (sym is) in
-    let told = rows o m colours (each_role role head) lines in
-    rw (after, sym is, sym at)
-    (last_row width told _ (length lines) (role x) (rowing.length_rows o m colours (each_role role head) lines) some (ranged x l)
-    ∙ ap {B = ℕ} (λ b. cond b 1 0) (roles_answer o laws m colours role head regular within heads lines (length lines - 1) x l))
+module _ {V : Type 0} (o : Operations V) where
+  -- after look, each node has its answer in the last row
+  pub look_byte :
+      (m : Meaning) (colours : Table) (lines : List Line) (area : List ℕ) (start : ℕ)
+      → answer_start lines m.nodes (length area) ≡ Ok start
+      → (x : ℕ)
+      → x < m.nodes
+      → slice_index (looked o m colours lines area) (start + x) ≡ cond (answer o m colours each_node lines x) 1 0
+  look_byte m colours lines area start passes x l =
+      let (some, at) = accepted lines m.nodes (length area) start passes in
+      rw (passes, sym at) (last_row m.nodes (rows o m colours each_node lines) _ (length lines) x (rowing.length_rows o m colours each_node lines) some l)
+
+  module _
+      (laws : Laws o)
+      (m : Meaning)
+      (colours role : Table)
+      (head : ℕ → ℕ)
+      (regular : Regular o m role)
+      (within : Refines m.nodes role colours)
+      (heads : (x : ℕ) → x < m.nodes → (head (role x) < m.nodes) × (role (head (role x)) ≡ role x))
+      (ranged : (x : ℕ) → x < m.nodes → role x < roles role m.nodes)
+      (lines : List Line)
+      (area : List ℕ) where
+    -- after ask, each node's role has the node's answer there
+    pub ask_byte : (start : ℕ) → answer_start lines (roles role m.nodes) (length area) ≡ Ok start → (x : ℕ) → x < m.nodes → slice_index (asked o m colours role head lines area) (start + role x) ≡ cond (answer o m colours each_node lines x) 1 0
+    ask_byte start passes x l =
+        let width = roles role m.nodes in
+        let (some, at) = accepted lines width (length area) start passes in
+        let told = rows o m colours (each_role role head) lines in
+        rw (passes, sym at)
+        (last_row width told _ (length lines) (role x) (rowing.length_rows o m colours (each_role role head) lines) some (ranged x l)
+        ∙ ap {B = ℕ} (λ b. cond b 1 0) (roles_answer o laws m colours role head regular within heads lines (length lines - 1) x l))
+
+    pub ask_agrees :
+        (new : List ℕ) (r : Result ℕ Fault)
+        → r ≡ answer_start lines (roles role m.nodes) (length area)
+        → new ≡ asked o m colours role head lines area
+        → IfOk r (λ start. (x : ℕ) → x < m.nodes → slice_index new (start + role x) ≡ cond (answer o m colours each_node lines x) 1 0)
+    ask_agrees new (Err f) is after = tt
+    ask_agrees new (Ok start) is after = λ x l. rw after (ask_byte start (sym is) x l)

@@ -21,9 +21,9 @@ impl<N: Editable, M: Measure> Open<N, M> {
         self.answer(&EachNode::of(self.table.nodes()), question, area)
     }
 
-    // Asks each role, for a settled session.
+    // Asks each role, with its head in place of its nodes. Only a settled session's roles have the network's answer, so its `ask` alone calls this.
     #[tactic(auto, using(crate::proofs::Keeping::numbered))]
-    pub(crate) fn ask(&self, question: &[Line], area: &mut [u8]) -> Result<usize, Fault>
+    pub(crate) fn answer_by_roles(&self, question: &[Line], area: &mut [u8]) -> Result<usize, Fault>
         ensures start { result ≡ answer_start question.now (roles (role_in self.now.table) (N.Readable.meaning self.now.network).nodes) (length area.old) }
         ensures area { area.new ≡ asked M.Measure.ops (N.Readable.meaning self.now.network) (class_in self.now.table) (role_in self.now.table) (head_in self.now.table) question.now area.old }
     {

@@ -10,4 +10,4 @@ returns-clause-network g c =
     let m = g.N.Readable.meaning s.network in
     ask_agrees g.M.Measure.ops g.met.M.Measure.lawful m (class_in s.table) (role_in s.table) (head_in s.table)
     c.args.self.now.regular s.between.within (role_head s.table m.nodes s.fits) (role_lt s.table m.nodes s.fits)
-    c.args.question.now c.args.area.now c.ask.new.area c.ask.result c.ask.ensures.start c.ask.ensures.area
+    c.args.question.now c.args.area.now c.answer_by_roles.new.area c.answer_by_roles.result c.answer_by_roles.ensures.start c.answer_by_roles.ensures.area

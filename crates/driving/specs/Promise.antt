@@ -1,0 +1,52 @@
+-- The promise, of a settled session and the book after its calls. Assumes nothing.
+--
+--   last_book    the book after the calls of a session that was made on a network of this meaning
+--   Kept         ties and colours are those of the book, and the table is regular and within the starting classes
+--   Coarse       every other regular table within the starting classes has at least as many roles, each inside one of this table's
+--   Answers      a question put to the roles has the network's answer
+--
+-- The starting classes and the totals are the book's, and nothing here is of a particular network or measure.
+use Rattle.std.specs.Prelude.{◌≡◌, ℕ, ◌+◌, ◌<◌, ◌≤◌, Bool, false, cond, List, length, slice_index, Ok}
+use Rattle.network.specs.Meaning.{Meaning}
+use Rattle.network.specs.declared.interface.Readable as readable
+use Rattle.measure.specs.declared.interface.Measure as measure
+use Rattle.equivalence.specs.Regular.{Table, Regular}
+use Rattle.equivalence.specs.Coarsest.{Refines, roles}
+use Rattle.equivalence.specs.Levels.{coarsest_table}
+use Rattle.equivalence.specs.Vetted.{table_of}
+use Rattle.question.specs.Checks.{answer_start}
+use Rattle.question.specs.Truth.{answer, each_node}
+use Rattle.question.specs.Areas.{looked, asked}
+use Rattle.question.specs.declared.line.Line.{Line}
+use Rattle.session.specs.Tables.{class_in, role_in, head_in}
+use Rattle.session.specs.declared.settled.Settled.{Settled}
+use Rattle.driving.specs.Book.{Book, opened}
+use Rattle.driving.specs.Turns.{book_at_last}
+use Rattle.driving.specs.declared.call.Call.{Call}
+
+abbrev pub last_book : Meaning → List Call → Book
+last_book m calls = book_at_last false (opened m) calls
+
+module _ {N M V : Type 0} {r : readable.Ghosts N} {g : measure.Ghosts M V} (book : Book) (s : Settled N M V r g) where
+  abbrev n : ℕ
+  n = book.network.nodes
+
+  abbrev role : Table
+  role = role_in s.session.table
+
+  pub record Kept : Type 0 where
+    pub ties : r.meaning s.session.network ≡ book.network
+    pub colours : class_in s.session.table ≡ book.colours
+    pub regular : Regular g.ops book.network role
+    pub within : Refines n role book.colours
+
+  pub record Coarse : Type 0 where
+    pub fewest : (other : Table) → Regular g.ops book.network other → Refines n other book.colours → roles role n ≤ roles other n
+    pub inside : (other : Table) → Regular g.ops book.network other → Refines n other book.colours → Refines n other role
+    -- and it is the computed one: the head of a node's role is the node's entry there
+    pub computed : (x : ℕ) → x < n → head_in s.session.table (role x) ≡ table_of (coarsest_table g.ops book.network book.colours) x
+
+  -- of every question that passes its checks, the last row of look has each node's answer, and the last row of ask has it for the node's role
+  pub record Answers : Type 0 where
+    pub look : (lines : List Line) (area : List ℕ) (start x : ℕ) → answer_start lines n (length area) ≡ Ok start → x < n → slice_index (looked g.ops book.network book.colours lines area) (start + x) ≡ cond (answer g.ops book.network book.colours each_node lines x) 1 0
+    pub ask : (lines : List Line) (area : List ℕ) (start x : ℕ) → answer_start lines (roles role n) (length area) ≡ Ok start → x < n → slice_index (asked g.ops book.network book.colours role (head_in s.session.table) lines area) (start + role x) ≡ cond (answer g.ops book.network book.colours each_node lines x) 1 0
