@@ -1,3 +1,4 @@
 pub mod Served
 pub mod Running
 pub mod Promised
+pub mod KnownTables
