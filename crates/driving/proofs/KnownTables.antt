@@ -22,7 +22,7 @@ module _ {V : Type 0} (o : Operations V) (laws : Laws o) (known : KnownNetwork) 
   abbrev book : Book
   book = drawn known.drawing
 
-  known_under : Answered (opened known.drawing.start) known.drawing.calls → coarsest_table o book.network book.colours ≡ known.table → roles (table_of known.table) book.network.nodes ≡ known.count → known.splits + roles book.colours book.network.nodes ≡ known.count → All (Shows o book.network) known.irregular → Answered (opened known.drawing.start) known.drawing.calls × KnownUnder o known book
+  known_under : Answered (opened known.drawing.start) known.drawing.edits → coarsest_table o book.network book.colours ≡ known.table → roles (table_of known.table) book.network.nodes ≡ known.count → known.splits + roles book.colours book.network.nodes ≡ known.count → All (Shows o book.network) known.irregular → Answered (opened known.drawing.start) known.drawing.edits × KnownUnder o known book
   known_under answered table count splits shown = (
     answered,
     record {

@@ -1,9 +1,9 @@
 -- The small networks with known tables. Assumes nothing.
 --
---   Call              a put or a colour, and what it answers
---   after_calls       the book after calls
---   Answered          each call answers so, in the book that the calls before it leave
---   Drawing           a network without ties, and the calls that draw ties and colours
+--   Edit              a put or a colour, and what it answers
+--   after_edits       the book after edits
+--   Answered          each edit answers so, in the book that those before it leave
+--   Drawing           a network without ties, and the edits that draw ties and colours
 --   drawn             the book of a drawing
 --   WeighedBy         one of the three measures
 --   Irregular         a table, and three nodes that show why it is not regular
@@ -11,7 +11,7 @@
 --   KnownNetwork      a drawing, a measure, and what is known of them
 --   KnownUnder        it holds of a book, under the operations of a measure
 --   KnownBy           the same, of a measure by its name
---   Known             each call of the drawing answers so, and what is known holds
+--   Known             each edit of the drawing answers so, and what is known holds
 --   known_networks    the networks, once for each measure under which they are known
 --   AllKnown          each of them is known
 use Rattle.std.specs.Prelude.{◌≡◌, ℕ, ◌+◌, ◌<◌, true, List, [], ◌∷◌, length, map, Result, Ok, Err, All}
@@ -31,32 +31,32 @@ use Rattle.session.specs.Sessions.{colour_answer}
 use Rattle.session.specs.declared.faults.Fault.{Fault as SessionFault}
 use Rattle.driving.specs.Book.{Book, opened, after_put, after_colour}
 
-pub data Call : Type 0 where
-  put : ℕ → ℕ → ℕ → Result (Unit {0}) NetworkFault → Call
-  colour : ℕ → ℕ → Result (Unit {0}) SessionFault → Call
+pub data Edit : Type 0 where
+  put : ℕ → ℕ → ℕ → Result (Unit {0}) NetworkFault → Edit
+  colour : ℕ → ℕ → Result (Unit {0}) SessionFault → Edit
 
-abbrev pub after_call : Book → Call → Book
-after_call book (put i j b answer) = after_put book i j b
-after_call book (colour i c answer) = after_colour book i c
+abbrev pub after_edit : Book → Edit → Book
+after_edit book (put i j b answer) = after_put book i j b
+after_edit book (colour i c answer) = after_colour book i c
 
-abbrev pub after_calls : Book → List Call → Book
-after_calls book [] = book
-after_calls book (call ∷ calls) = after_calls (after_call book call) calls
+abbrev pub after_edits : Book → List Edit → Book
+after_edits book [] = book
+after_edits book (edit ∷ edits) = after_edits (after_edit book edit) edits
 
-abbrev pub Answers : Book → Call → Type 0
-Answers book (put i j b answer) = put_answer book.network i j b ≡ answer
-Answers book (colour i c answer) = colour_answer book.network.nodes i ≡ answer
+abbrev pub AnswersSo : Book → Edit → Type 0
+AnswersSo book (put i j b answer) = put_answer book.network i j b ≡ answer
+AnswersSo book (colour i c answer) = colour_answer book.network.nodes i ≡ answer
 
-abbrev pub Answered : Book → List Call → Type 0
+abbrev pub Answered : Book → List Edit → Type 0
 Answered book [] = Unit {0}
-Answered book (call ∷ calls) = Answers book call × Answered (after_call book call) calls
+Answered book (edit ∷ edits) = AnswersSo book edit × Answered (after_edit book edit) edits
 
 pub record Drawing : Type 0 where
   pub start : Meaning
-  pub calls : List Call
+  pub edits : List Edit
 
 abbrev pub drawn : Drawing → Book
-drawn drawing = after_calls (opened drawing.start) drawing.calls
+drawn drawing = after_edits (opened drawing.start) drawing.edits
 
 pub data WeighedBy : Type 0 where
   by_kinds : WeighedBy
@@ -101,10 +101,10 @@ KnownBy by_bundles = KnownUnder bundles
 KnownBy by_tally = KnownUnder tally
 
 abbrev pub Known : KnownNetwork → Type 0
-Known known = Answered (opened known.drawing.start) known.drawing.calls × KnownBy known.weighed known (drawn known.drawing)
+Known known = Answered (opened known.drawing.start) known.drawing.edits × KnownBy known.weighed known (drawn known.drawing)
 
 -- byte 1 from the first of each pair to the second, accepted
-abbrev pub ties : List (ℕ × ℕ) → List Call
+abbrev pub ties : List (ℕ × ℕ) → List Edit
 ties pairs = map (λ pair. put pair.0 pair.1 1 (Ok tt)) pairs
 
 -- n nodes without a tie; at most so many pairs may be tied at a time
@@ -112,24 +112,24 @@ abbrev pub untied_slots : ℕ → ℕ → Meaning
 untied_slots n capacity = record { nodes = n; tie = λ _ _. 0; allowed = λ _ _. true; capacity = capacity }
 
 abbrev pub two_colours : KnownNetwork
-two_colours = record { drawing = record { start = untied 4; calls = colour 0 0 (Ok tt) ∷ colour 1 1 (Ok tt) ∷ colour 2 0 (Ok tt) ∷ colour 3 1 (Ok tt) ∷ [] }; weighed = by_kinds; table = 0 ∷ 1 ∷ 0 ∷ 1 ∷ []; count = 2; splits = 0; irregular = [] }
+two_colours = record { drawing = record { start = untied 4; edits = colour 0 0 (Ok tt) ∷ colour 1 1 (Ok tt) ∷ colour 2 0 (Ok tt) ∷ colour 3 1 (Ok tt) ∷ [] }; weighed = by_kinds; table = 0 ∷ 1 ∷ 0 ∷ 1 ∷ []; count = 2; splits = 0; irregular = [] }
 
 abbrev pub own_tie : KnownNetwork
-own_tie = record { drawing = record { start = untied 1; calls = ties ((0, 0) ∷ []) }; weighed = by_kinds; table = 0 ∷ []; count = 1; splits = 0; irregular = [] }
+own_tie = record { drawing = record { start = untied 1; edits = ties ((0, 0) ∷ []) }; weighed = by_kinds; table = 0 ∷ []; count = 1; splits = 0; irregular = [] }
 
 abbrev pub short_chain : KnownNetwork
-short_chain = record { drawing = record { start = untied 3; calls = ties ((0, 1) ∷ (1, 2) ∷ []) }; weighed = by_kinds; table = 0 ∷ 1 ∷ 2 ∷ []; count = 3; splits = 2; irregular = [] }
+short_chain = record { drawing = record { start = untied 3; edits = ties ((0, 1) ∷ (1, 2) ∷ []) }; weighed = by_kinds; table = 0 ∷ 1 ∷ 2 ∷ []; count = 3; splits = 2; irregular = [] }
 
 abbrev pub long_chain : KnownNetwork
-long_chain = record { drawing = record { start = untied 9; calls = ties ((0, 1) ∷ (1, 2) ∷ (2, 3) ∷ (3, 4) ∷ (4, 5) ∷ (5, 6) ∷ (6, 7) ∷ (7, 8) ∷ []) }; weighed = by_kinds; table = 0 ∷ 1 ∷ 2 ∷ 3 ∷ 4 ∷ 5 ∷ 6 ∷ 7 ∷ 8 ∷ []; count = 9; splits = 8; irregular = [] }
+long_chain = record { drawing = record { start = untied 9; edits = ties ((0, 1) ∷ (1, 2) ∷ (2, 3) ∷ (3, 4) ∷ (4, 5) ∷ (5, 6) ∷ (6, 7) ∷ (7, 8) ∷ []) }; weighed = by_kinds; table = 0 ∷ 1 ∷ 2 ∷ 3 ∷ 4 ∷ 5 ∷ 6 ∷ 7 ∷ 8 ∷ []; count = 9; splits = 8; irregular = [] }
 
 -- node 2 is without ties; in one role with node 1 it differs from it toward node 0
 abbrev pub one_tie : KnownNetwork
-one_tie = record { drawing = record { start = untied 3; calls = ties ((0, 1) ∷ []) }; weighed = by_kinds; table = 0 ∷ 1 ∷ 2 ∷ []; count = 3; splits = 2; irregular = record { table = 0 ∷ 1 ∷ 1 ∷ []; x = 1; y = 2; z = 0 } ∷ [] }
+one_tie = record { drawing = record { start = untied 3; edits = ties ((0, 1) ∷ []) }; weighed = by_kinds; table = 0 ∷ 1 ∷ 2 ∷ []; count = 3; splits = 2; irregular = record { table = 0 ∷ 1 ∷ 1 ∷ []; x = 1; y = 2; z = 0 } ∷ [] }
 
 -- a team of three, and one of two
 abbrev pub teams : Drawing
-teams = record { start = untied 5; calls = ties ((0, 1) ∷ (0, 2) ∷ (3, 4) ∷ []) }
+teams = record { start = untied 5; edits = ties ((0, 1) ∷ (0, 2) ∷ (3, 4) ∷ []) }
 
 abbrev pub teams_by_kinds : KnownNetwork
 teams_by_kinds = record { drawing = teams; weighed = by_kinds; table = 0 ∷ 1 ∷ 1 ∷ 0 ∷ 1 ∷ []; count = 2; splits = 1; irregular = [] }
@@ -139,7 +139,7 @@ teams_by_tally = record { drawing = teams; weighed = by_tally; table = 0 ∷ 1 �
 
 -- a cycle of three, and a mutual tie
 abbrev pub cycles : Drawing
-cycles = record { start = untied 5; calls = ties ((0, 1) ∷ (1, 2) ∷ (2, 0) ∷ (3, 4) ∷ (4, 3) ∷ []) }
+cycles = record { start = untied 5; edits = ties ((0, 1) ∷ (1, 2) ∷ (2, 0) ∷ (3, 4) ∷ (4, 3) ∷ []) }
 
 abbrev pub cycles_by_kinds : KnownNetwork
 cycles_by_kinds = record { drawing = cycles; weighed = by_kinds; table = 0 ∷ 0 ∷ 0 ∷ 0 ∷ 0 ∷ []; count = 1; splits = 0; irregular = [] }
@@ -152,11 +152,11 @@ cycles_by_tally = record { drawing = cycles; weighed = by_tally; table = 0 ∷ 0
 
 -- nodes 0 to 2 on side A, and nodes 3 and 4 on side B
 abbrev pub two_sides : KnownNetwork
-two_sides = record { drawing = record { start = untied_sides (3, 2); calls = ties ((0, 3) ∷ (1, 3) ∷ []) }; weighed = by_kinds; table = 0 ∷ 0 ∷ 2 ∷ 3 ∷ 2 ∷ []; count = 3; splits = 2; irregular = [] }
+two_sides = record { drawing = record { start = untied_sides (3, 2); edits = ties ((0, 3) ∷ (1, 3) ∷ []) }; weighed = by_kinds; table = 0 ∷ 0 ∷ 2 ∷ 3 ∷ 2 ∷ []; count = 3; splits = 2; irregular = [] }
 
 -- the second tie waits until the first leaves the only slot
 abbrev pub one_slot : KnownNetwork
-one_slot = record { drawing = record { start = untied_slots 3 1; calls = put 0 1 1 (Ok tt) ∷ put 0 2 1 (Err NetworkFault.Full) ∷ put 0 1 0 (Ok tt) ∷ put 0 2 1 (Ok tt) ∷ [] }; weighed = by_kinds; table = 0 ∷ 1 ∷ 2 ∷ []; count = 3; splits = 2; irregular = [] }
+one_slot = record { drawing = record { start = untied_slots 3 1; edits = put 0 1 1 (Ok tt) ∷ put 0 2 1 (Err NetworkFault.Full) ∷ put 0 1 0 (Ok tt) ∷ put 0 2 1 (Ok tt) ∷ [] }; weighed = by_kinds; table = 0 ∷ 1 ∷ 2 ∷ []; count = 3; splits = 2; irregular = [] }
 
 abbrev pub known_networks : List KnownNetwork
 known_networks = two_colours ∷ own_tie ∷ short_chain ∷ long_chain ∷ one_tie ∷ teams_by_kinds ∷ teams_by_tally ∷ cycles_by_kinds ∷ cycles_by_bundles ∷ cycles_by_tally ∷ two_sides ∷ one_slot ∷ []
