@@ -1,5 +1,5 @@
 -- What a settled session keeps, it promises of its own book. Assumes nothing.
-use Rattle.std.proofs.Common.{◌≡◌, ℕ, ◌+◌, ◌<◌, Bool, cond, List, length, slice_index, Ok, sym, refl, ap, ◌∙◌, rules, arith}
+use Rattle.std.proofs.Common.{ℕ, ◌<◌, refl, arith}
 use Rattle.network.specs.Meaning.{Meaning}
 use Rattle.network.specs.declared.interface.Readable as readable
 use Rattle.measure.specs.Measures.{Laws}

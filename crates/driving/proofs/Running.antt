@@ -1,5 +1,5 @@
 -- A run goes on by one call. Assumes nothing.
-use Rattle.std.proofs.Common.{◌≡◌, Bool, ℕ, List, [], ◌∷◌, ◌++◌, refl, subst, sym}
+use Rattle.std.proofs.Common.{◌≡◌, Bool, ℕ, List, [], ◌∷◌, ◌++◌, refl, subst}
 use Rattle.measure.specs.Measures.{Operations}
 use Rattle.driving.specs.Book.{Book}
 use Rattle.driving.specs.Turns.{settled_after, book_after, Told, Run, settled_at_last, book_at_last}

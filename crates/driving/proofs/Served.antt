@@ -1,5 +1,5 @@
 -- The table of a session is one that serves its book. Assumes nothing.
-use Rattle.std.proofs.Common.{◌≡◌, ◌∙◌, ℕ, Bool, true, false, rules, arith}
+use Rattle.std.proofs.Common.{◌≡◌, Bool, true, arith}
 use Rattle.network.specs.declared.interface.Readable as readable
 use Rattle.measure.specs.declared.interface.Measure as measure
 use Rattle.equivalence.specs.Regular.{Regular}

@@ -6,7 +6,7 @@
 --   Answers      a question put to the roles has the network's answer
 --
 -- The starting classes and the totals are the book's, and nothing here is of a particular network or measure.
-use Rattle.std.specs.Prelude.{◌≡◌, ℕ, ◌+◌, ◌<◌, ◌≤◌, Bool, false, cond, List, length, slice_index, Ok}
+use Rattle.std.specs.Prelude.{◌≡◌, ℕ, ◌+◌, ◌<◌, ◌≤◌, false, cond, List, length, slice_index, Ok}
 use Rattle.network.specs.Meaning.{Meaning}
 use Rattle.network.specs.declared.interface.Readable as readable
 use Rattle.measure.specs.declared.interface.Measure as measure

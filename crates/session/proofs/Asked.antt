@@ -1,6 +1,5 @@
 -- What the last row of an area says. Assumes nothing.
-use Rattle.std.proofs.Common.{◌≡◌, ℕ, ◌+◌, ◌-◌, ◌*◌, ◌<◌, Bool, cond, List, ◌++◌, length, get_or, drop, flat_map, slice_index, Result, Ok, Err, IfOk, ap, sym, ◌∙◌, suc-mul, arith}
-use Rattle.std.proofs.Math.Nat.{mul-le-mul_right}
+use Rattle.std.proofs.Common.{◌≡◌, ℕ, ◌+◌, ◌-◌, ◌*◌, ◌<◌, Bool, cond, List, ◌++◌, length, get_or, flat_map, slice_index, Result, Ok, Err, IfOk, ap, sym, ◌∙◌, suc-mul, arith}
 use Rattle.std.proofs.lemmas.List.{get_or_append_left}
 use Rattle.network.specs.Meaning.{Meaning}
 use Rattle.measure.specs.Measures.{Operations, Laws}

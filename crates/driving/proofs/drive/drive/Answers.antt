@@ -1,9 +1,9 @@
-use Rattle.std.proofs.Common.{◌≡◌, ◌∙◌, ℕ, ◌<◌, ◌≤◌, false, length, ◌+◌, take, get_or, set, [], ◌∷◌, ◌++◌, subst, sym, ap, ap₂, arith, length-set, take-suc-set, add-one}
+use Rattle.std.proofs.Common.{◌≡◌, ◌∙◌, false, ◌+◌, take, get_or, set, [], ◌∷◌, ◌++◌, subst, sym, ap, ap₂, arith, length-set, take-suc-set, add-one}
 use Rattle.std.proofs.lemmas.List.{take_more, take_all}
-use Rattle.driving.specs.Book.{Book, opened}
+use Rattle.driving.specs.Book.{opened}
 use Rattle.driving.specs.declared.call.Call.{Call}
 use Rattle.driving.specs.States.{book_in}
-use Rattle.driving.specs.Turns.{Run, book_at_last, settled_at_last, book_after, settled_after}
+use Rattle.driving.specs.Turns.{book_at_last, settled_at_last, book_after, settled_after}
 use Rattle.driving.specs.Promise.{Kept, Coarse, Answers, last_book}
 use Rattle.driving.proofs.Running.{settled_push, book_push, run_push}
 use Rattle.driving.proofs.Promised.{kept_own, coarse_own, answers_own}

@@ -1,11 +1,10 @@
-use Rattle.std.proofs.Common.{rules, ◌≡◌, ◌∙◌, true, false, ap, inl, inr}
+use Rattle.std.proofs.Common.{rules, ◌∙◌, false, ap, inl, inr}
 use Rattle.session.specs.Roles.{record_at}
 use Rattle.session.specs.Tables.{role_in}
 use Rattle.driving.specs.declared.call.Reply.{Reply}
 use Rattle.driving.specs.States.{book_in}
 use Rattle.driving.specs.Turns.{Serves}
 use Rattle.driving.proofs.Served.{serves}
-use Rattle.driving.proofs.state.call_open.Given.{Over}
 use Rattle.driving.proofs.state.call_open.Goals as goal
 use Rattle.driving.proofs.state.call_open.Goals.{in-Put, in-Colour, in-Step, in-Look, in-Roles, in-Splits, in-RoleOf, in-Role, in-Reopen}
 

@@ -1,4 +1,4 @@
-use Rattle.std.proofs.Common.{◌≡◌, ◌∙◌, true, false, ap, inl, inr}
+use Rattle.std.proofs.Common.{◌∙◌, true, ap, inl, inr}
 use Rattle.session.specs.Roles.{record_at}
 use Rattle.session.specs.Tables.{role_in}
 use Rattle.driving.specs.declared.call.Reply.{Reply}

@@ -1,4 +1,4 @@
-use Rattle.std.proofs.Common.{◌≡◌, ◌<◌, ℕ, length, get_or, cond}
+use Rattle.std.proofs.Common.{◌≡◌, ◌<◌, ℕ, get_or, cond}
 use Rattle.question.specs.Truth.{claimed}
 use Rattle.session.specs.Marks.{marked}
 use Rattle.session.specs.Tables.{class_in}

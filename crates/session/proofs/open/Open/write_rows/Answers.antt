@@ -1,8 +1,6 @@
-use Rattle.std.proofs.Common.{◌≡◌, ◌∙◌, ℕ, ◌+◌, ◌*◌, ◌<◌, Bool, true, List, length, Some, take, get_or, flat_map, ap, sym, rules, arith}
-use Rattle.std.proofs.lemmas.List.{take_at, length-take-le}
-use Rattle.question.specs.Lines.{claim, earlier}
-use Rattle.question.specs.Truth.{row, rows, line_row}
-use Rattle.question.specs.Areas.{row_bytes}
+use Rattle.std.proofs.Common.{◌≡◌, ◌∙◌, length, take, get_or, sym, arith}
+use Rattle.std.proofs.lemmas.List.{length-take-le}
+use Rattle.question.specs.Truth.{rows}
 use Rattle.question.proofs.Checked.{known_claim, earlier_claim}
 use Rattle.question.proofs.Rowing.{length_rows, rows_more}
 use Rattle.question.specs.declared.line.Line.{Line}

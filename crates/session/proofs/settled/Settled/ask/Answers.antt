@@ -1,4 +1,3 @@
-use Rattle.std.proofs.Common.{arith}
 use Rattle.session.specs.Tables.{class_in, head_in, role_in}
 use Rattle.session.proofs.Asked.{ask_agrees}
 use Rattle.session.proofs.Keeping.{role_lt, role_head}
