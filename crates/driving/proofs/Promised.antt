@@ -1,5 +1,5 @@
 -- What a settled session keeps, it promises of its own book. Assumes nothing.
-use Rattle.std.proofs.Common.{ℕ, ◌<◌, refl, arith}
+use Rattle.std.proofs.Common.{ℕ, ◌<◌, refl, sym, ◌∙◌, arith}
 use Rattle.network.specs.Meaning.{Meaning}
 use Rattle.network.specs.declared.interface.Readable as readable
 use Rattle.measure.specs.Measures.{Laws}
@@ -52,7 +52,8 @@ module _ {N M V : Type 0} {r : readable.Ghosts N} {g : measure.Ghosts M V} (laws
   answers_own =
       record {
         look = λ lines area start x passes l. look_byte g.ops m classes lines area start passes x l;
-        ask = λ lines area start x passes l.
+        ask = λ lines a b i j x asks looks l.
             ask_byte g.ops laws m classes role head s.regular s.session.between.within
-            (role_head s.session.table m.nodes s.session.fits) (role_lt s.session.table m.nodes s.session.fits) lines area start passes x l;
+            (role_head s.session.table m.nodes s.session.fits) (role_lt s.session.table m.nodes s.session.fits) lines a i asks x l
+            ∙ sym (look_byte g.ops m classes lines b j looks x l);
       }

@@ -46,7 +46,14 @@ module _ {N M V : Type 0} {r : readable.Ghosts N} {g : measure.Ghosts M V} (book
     -- and it is the computed one: the head of a node's role is the node's entry there
     pub computed : (x : ℕ) → x < n → head_in s.session.table (role x) ≡ table_of (coarsest_table g.ops book.network book.colours) x
 
-  -- of every question that passes its checks, the last row of look has each node's answer, and the last row of ask has it for the node's role
+  -- of every question that passes its checks
   pub record Answers : Type 0 where
+    -- the last row of look has each node's answer
     pub look : (lines : List Line) (area : List ℕ) (start x : ℕ) → answer_start lines n (length area) ≡ Ok start → x < n → slice_index (looked g.ops book.network book.colours lines area) (start + x) ≡ cond (answer g.ops book.network book.colours each_node lines x) 1 0
-    pub ask : (lines : List Line) (area : List ℕ) (start x : ℕ) → answer_start lines (roles role n) (length area) ≡ Ok start → x < n → slice_index (asked g.ops book.network book.colours role (head_in s.session.table) lines area) (start + role x) ≡ cond (answer g.ops book.network book.colours each_node lines x) 1 0
+    -- the last row of ask has for each node's role what the last row of look has for the node
+    pub ask :
+        (lines : List Line) (asked_area looked_area : List ℕ) (i j x : ℕ)
+        → answer_start lines (roles role n) (length asked_area) ≡ Ok i
+        → answer_start lines n (length looked_area) ≡ Ok j
+        → x < n
+        → slice_index (asked g.ops book.network book.colours role (head_in s.session.table) lines asked_area) (i + role x) ≡ slice_index (looked g.ops book.network book.colours lines looked_area) (j + x)
