@@ -8,3 +8,5 @@ pub mod line;
 pub mod faults;
 // Whether a question can be answered.
 pub mod checking;
+#[cfg(test)]
+mod tests;
