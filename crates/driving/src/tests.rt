@@ -129,23 +129,23 @@ fn look_and_ask_share_the_area(rt: HostRuntime) -> Result<(), Fail> {
     let heap = rt.alloc();
     // Students 0 to 2, exams 3 and 4: who has passed an exam, and who has not?
     let exams = TwoMode::new(3, 2, vec![in heap; 0; 6]?);
-    let question = [
+    let lines = [
         Line::colour(9),
         Line::not(0),
         Line::tied(1, 0),
         Line::not(2),
     ];
-    let later = [Line::not(0)];
+    let question = &lines[..];
     let calls = [
         Call::Put(0, 3, 1),
         Call::Put(1, 3, 1),
         Call::Put(3, 0, 1),
-        Call::Look(&question),
-        Call::Look(&[]),
-        Call::Look(&later),
+        Call::Look(question),
+        Call::Look(&question[..0]),
+        Call::Look(&question[1..]),
         Call::Settle,
-        Call::Ask(&question),
-        Call::Ask(&later),
+        Call::Ask(question),
+        Call::Ask(&question[1..]),
     ];
     let mut area = [7; 20];
     let (settled, replies) = drive(heap, exams, Kinds, &calls, &mut area)?;

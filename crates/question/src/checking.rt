@@ -1,5 +1,5 @@
 // Whether a question can be answered.
-ghost use Rattle.std.specs.Prelude.{◌≡◌, length};
+ghost use Rattle.std.specs.Prelude.{◌≡◌};
 ghost use Rattle.question.specs.Checks.{line_check, lines_check, answer_start};
 
 use super::faults::Fault;

@@ -1,12 +1,10 @@
 // What a question is true of, row by row.
-ghost use Rattle.std.specs.Prelude.{◌≡◌, ◌≢◌, ℕ, ◌+◌, ◌*◌, ◌<◌, ◌≤◌, Bool, cond, List, length, ◌++◌, drop, filter, flat_map, slice_index, Some, None, Ok, Option};
+ghost use Rattle.std.specs.Prelude.{◌≡◌, ℕ, ◌+◌, ◌*◌, ◌<◌, ◌≤◌, length, ◌++◌, drop, filter, flat_map, Ok};
 ghost use Rattle.std.specs.List.{range_with_len};
-ghost use Rattle.question.specs.Lines.{claim, earlier};
-ghost use Rattle.question.specs.Checks.{answer_start, line_check, lines_check};
-ghost use Rattle.question.specs.Truth.{claimed, line_row, rows};
+ghost use Rattle.question.specs.Checks.{answer_start, lines_check};
+ghost use Rattle.question.specs.Truth.{claimed, rows};
 ghost use Rattle.question.specs.Areas.{area_after, row_bytes};
 ghost use Rattle.question.specs.declared.line.Claim.{Claim};
-ghost use Rattle.question.specs.declared.line.Line.{Line};
 ghost use Rattle.session.specs.Marks.{marked, Written};
 ghost use Rattle.session.specs.Tables.{class_in};
 
