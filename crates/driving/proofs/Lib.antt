@@ -1,4 +1,4 @@
-pub mod Served
+pub mod Turning
 pub mod Running
 pub mod Promised
 pub mod KnownTables

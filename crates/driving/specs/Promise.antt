@@ -1,12 +1,14 @@
 -- The promise, of a settled session and the book after its calls. Assumes nothing.
 --
 --   last_book    the book after the calls of a session that was made on a network of this meaning
+--   calls_of, replies_of    the calls and the replies of a list of exchanges
+--   Driven       from the starting classes on, each call of the list did what it has to do, one after another; then the session was settled
 --   Kept         ties and colours are those of the book, and the table is regular and within the starting classes
 --   Coarse       every other regular table within the starting classes has at least as many roles, each inside one of this table's
 --   Answers      a question put to the roles has the network's answer
 --
 -- The starting classes and the totals are the book's, and nothing here is of a particular network or measure.
-use Rattle.std.specs.Prelude.{◌≡◌, ℕ, ◌+◌, ◌<◌, ◌≤◌, false, cond, List, length, slice_index, Ok}
+use Rattle.std.specs.Prelude.{◌≡◌, ℕ, ◌+◌, ◌<◌, ◌≤◌, true, false, cond, List, map, length, slice_index, Ok}
 use Rattle.network.specs.Meaning.{Meaning}
 use Rattle.network.specs.declared.interface.Readable as readable
 use Rattle.measure.specs.declared.interface.Measure as measure
@@ -19,13 +21,32 @@ use Rattle.question.specs.Truth.{answer, each_node}
 use Rattle.question.specs.Areas.{looked, asked}
 use Rattle.question.specs.declared.line.Line.{Line}
 use Rattle.session.specs.Tables.{class_in, role_in, head_in}
+use Rattle.session.specs.declared.table.Table.{Table as RoleTable}
 use Rattle.session.specs.declared.settled.Settled.{Settled}
 use Rattle.driving.specs.Book.{Book, opened}
-use Rattle.driving.specs.Turns.{book_at_last}
+use Rattle.driving.specs.Turns.{Begun, Ended, Run, book_at_last, settled_at_last}
 use Rattle.driving.specs.declared.call.Call.{Call}
+use Rattle.driving.specs.declared.call.Reply.{Reply}
+use Rattle.driving.specs.declared.call.Exchange.{Exchange}
+
+abbrev pub calls_of : List Exchange → List Call
+calls_of exchanges = map (λ e. e.call) exchanges
+
+abbrev pub replies_of : List Exchange → List Reply
+replies_of exchanges = map (λ e. e.reply) exchanges
 
 abbrev pub last_book : Meaning → List Call → Book
 last_book m calls = book_at_last false (opened m) calls
+
+-- area and after: what the handed area held before the calls and holds after them
+pub record Driven {N M V : Type 0} {r : readable.Ghosts N} {g : measure.Ghosts M V} (m : Meaning) (calls : List Call) (area : List ℕ) (replies : List Reply) (after : List ℕ) (s : Settled N M V r g) : Type 0 where
+  pub first : RoleTable
+  pub last : RoleTable
+  pub begun : Begun (opened m) first
+  pub run : Run g.ops false (opened m) calls first area replies after last
+  -- a session that was settled already is the one that is given back
+  pub settled : settled_at_last false calls ≡ true → s.session.table ≡ last
+  pub ended : Ended g.ops (last_book m calls) s.session.table
 
 module _ {N M V : Type 0} {r : readable.Ghosts N} {g : measure.Ghosts M V} (book : Book) (s : Settled N M V r g) where
   abbrev n : ℕ

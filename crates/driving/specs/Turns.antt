@@ -1,25 +1,30 @@
--- What calls do, told from the book. Assumes nothing.
+-- What calls do, one after another. Assumes nothing.
 --
 --   settled_after    whether the session is settled after a call
 --   book_after       the book after a call: only a put and a colour that the session takes are fed to it
---   Serves           a table with heads and sizes that a session with this book may have
---   Told             what a call replies, and what the handed area then holds
---   Run              the same of a list of calls, in order
---   settled_at_last, book_at_last    after a list of calls
-use Rattle.std.specs.Prelude.{◌≡◌, ◌↔◌, ℕ, ◌+◌, ◌<◌, Bool, true, false, cond, List, [], ◌∷◌, length, Result}
+--   Begun            a table at the starting classes, with no split counted
+--   Edited           begun anew where a put or a colour is accepted, and as it was where it is refused
+--   Ended            the coarsest table, with its splits counted
+--   Same             neither the handed area nor the session's table is altered
+--   Passed           the same, for a call that the session does not take
+--   Tells            what is told of the session's table
+--   Turn             a call of an open or a settled session: what it replies, what the area then holds, and which table the session then has
+--   Run              the same of a list of calls
+use Rattle.std.specs.Prelude.{◌≡◌, ◌↔◌, ℕ, ◌+◌, Bool, true, false, cond, List, [], ◌∷◌, length, Result, Ok, Err}
 use Rattle.network.specs.Put.{put_answer}
 use Rattle.measure.specs.Measures.{Operations}
-use Rattle.equivalence.specs.Regular.{Table, Regular}
-use Rattle.equivalence.specs.Coarsest.{Between, roles}
+use Rattle.equivalence.specs.Regular.{Regular}
+use Rattle.equivalence.specs.Coarsest.{Coarsest, roles}
 use Rattle.question.specs.Checks.{answer_start}
 use Rattle.question.specs.Areas.{looked, asked}
-use Rattle.question.specs.declared.line.Line.{Line}
-use Rattle.session.specs.Roles.{Described}
-use Rattle.session.specs.Sessions.{colour_answer}
+use Rattle.session.specs.Sessions.{Starting, colour_answer}
+use Rattle.session.specs.Steps.{Stepped}
+use Rattle.session.specs.Tables.{role_in, head_in}
 use Rattle.session.specs.Tellings.{role_answer, RoleTold}
 use Rattle.session.specs.declared.faults.Fault.{Fault}
 use Rattle.session.specs.declared.role.Role as role_record
 use Rattle.session.specs.declared.step.Step as step
+use Rattle.session.specs.declared.table.Table.{Table as RoleTable}
 use Rattle.driving.specs.Book.{Book, after_put, after_colour}
 use Rattle.driving.specs.declared.call.Call.{Call}
 use Rattle.driving.specs.declared.call.Call.TheVariants.{Put, Colour, Step, Settle, Reopen, Look, Ask, Roles, Splits, RoleOf, Role}
@@ -51,46 +56,63 @@ book_after settled book Splits = book
 book_after settled book (RoleOf x) = book
 book_after settled book (Role r) = book
 
+abbrev pub Begun : Book → RoleTable → Type 0
+Begun book table = Starting book.network.nodes book.colours (role_in table) × (table.splits ≡ 0)
+
+-- the book is the one after the put or colour
+abbrev pub Edited : {F : Type 0} → Book → Result (Unit {0}) F → RoleTable → RoleTable → Type 0
+Edited book (Ok _) old new = Begun book new
+Edited book (Err f) old new = new ≡ old
+
+abbrev pub Same : List ℕ → List ℕ → RoleTable → RoleTable → Type 0
+Same area after table next = (after ≡ area) × (next ≡ table)
+
+abbrev pub Passed : List ℕ → Reply → List ℕ → RoleTable → RoleTable → Type 0
+Passed area reply after table next = (reply ≡ Reply.NotTaken) × Same area after table next
+
+abbrev pub Tells : Book → RoleTable → Call → Reply → Type 0
+Tells book table Roles reply = reply ≡ Reply.Roles (roles (role_in table) book.network.nodes)
+Tells book table Splits reply = reply ≡ Reply.Splits table.splits
+Tells book table (RoleOf x) reply = reply ≡ Reply.RoleOf (role_answer book.network.nodes (role_in table) x)
+Tells book table (Role r) reply = (told : Result role_record.Role Fault) × RoleTold book.network.nodes (role_in table) r told × (reply ≡ Reply.Role told)
+-- the other calls tell nothing of it
+Tells book table (Put i j b) reply = ⊥
+Tells book table (Colour i c) reply = ⊥
+Tells book table Step reply = ⊥
+Tells book table Settle reply = ⊥
+Tells book table Reopen reply = ⊥
+Tells book table (Look q) reply = ⊥
+Tells book table (Ask q) reply = ⊥
+
 module _ {V : Type 0} (o : Operations V) where
-  -- between the starting classes and every regular table within them; regular, once the session is settled
-  pub record Serves (settled : Bool) (book : Book) (role : Table) (records : ℕ → role_record.Role) : Type 0 where
-    pub between : Between o book.network book.colours role
-    pub regular : settled ≡ true → Regular o book.network role
-    -- roles have the numbers from 0 up, each with its head and its size
-    pub numbered : (x : ℕ) → x < book.network.nodes → role x < roles role book.network.nodes
-    pub described : (r : ℕ) → r < roles role book.network.nodes → Described book.network.nodes role r (records r)
+  abbrev pub Ended : Book → RoleTable → Type 0
+  Ended book table = Coarsest o book.network book.colours (role_in table) × (table.splits + roles book.colours book.network.nodes ≡ roles (role_in table) book.network.nodes)
 
-  -- of the session's table
-  abbrev pub OfTable : Bool → Book → (Table → (ℕ → role_record.Role) → Type 0) → Type 0
-  OfTable settled book P = (role : Table) × (records : ℕ → role_record.Role) × Serves settled book role records × P role records
+  abbrev pub Turn : Bool → Book → Call → RoleTable → List ℕ → Reply → List ℕ → RoleTable → Type 0
+  Turn false book (Put i j b) table area reply after next = (reply ≡ Reply.Put (put_answer book.network i j b)) × (after ≡ area) × Edited (after_put book i j b) (put_answer book.network i j b) table next
+  Turn false book (Colour i c) table area reply after next = (reply ≡ Reply.Colour (colour_answer book.network.nodes i)) × (after ≡ area) × Edited (after_colour book i c) (colour_answer book.network.nodes i) table next
+  Turn false book Step table area reply after next = (s : step.Step) × (reply ≡ Reply.Step s) × (after ≡ area) × ((s ≡ step.Step.Stable) ↔ Regular o book.network (role_in table)) × Stepped o book.network table next s
+  Turn false book Settle table area reply after next = (reply ≡ Reply.Settled) × (after ≡ area) × Ended book next
+  Turn false book Reopen table area reply after next = Passed area reply after table next
+  Turn false book (Ask q) table area reply after next = Passed area reply after table next
+  Turn true book (Put i j b) table area reply after next = Passed area reply after table next
+  Turn true book (Colour i c) table area reply after next = Passed area reply after table next
+  Turn true book Step table area reply after next = Passed area reply after table next
+  Turn true book Settle table area reply after next = Passed area reply after table next
+  Turn true book Reopen table area reply after next = (reply ≡ Reply.Reopened) × Same area after table next
+  Turn true book (Ask q) table area reply after next = (reply ≡ Reply.Ask (answer_start q.now (roles (role_in table) book.network.nodes) (length area))) × (after ≡ asked o book.network book.colours (role_in table) (head_in table) q.now area) × (next ≡ table)
+  Turn settled book (Look q) table area reply after next = (reply ≡ Reply.Look (answer_start q.now book.network.nodes (length area))) × (after ≡ looked o book.network book.colours q.now area) × (next ≡ table)
+  Turn settled book Roles table area reply after next = Tells book table Roles reply × Same area after table next
+  Turn settled book Splits table area reply after next = Tells book table Splits reply × Same area after table next
+  Turn settled book (RoleOf x) table area reply after next = Tells book table (RoleOf x) reply × Same area after table next
+  Turn settled book (Role r) table area reply after next = Tells book table (Role r) reply × Same area after table next
 
-  abbrev pub AskTold : Bool → Book → List Line → List ℕ → Reply → List ℕ → Type 0
-  AskTold false book lines area reply after = (reply ≡ Reply.NotTaken) × (after ≡ area)
-  AskTold true book lines area reply after = OfTable true book (λ role records. (reply ≡ Reply.Ask (answer_start lines (roles role book.network.nodes) (length area))) × (after ≡ asked o book.network book.colours role (λ r. (records r).head) lines area))
-
-  abbrev pub StepTold : Bool → Book → Reply → Type 0
-  StepTold true book reply = reply ≡ Reply.NotTaken
-  StepTold false book reply = OfTable false book (λ role records. (s : step.Step) × ((s ≡ step.Step.Stable) ↔ Regular o book.network role) × (reply ≡ Reply.Step s))
-
-  abbrev pub Told : Bool → Book → Call → List ℕ → Reply → List ℕ → Type 0
-  Told settled book (Put i j b) area reply after = (reply ≡ cond settled Reply.NotTaken (Reply.Put (put_answer book.network i j b))) × (after ≡ area)
-  Told settled book (Colour i c) area reply after = (reply ≡ cond settled Reply.NotTaken (Reply.Colour (colour_answer book.network.nodes i))) × (after ≡ area)
-  Told settled book Step area reply after = StepTold settled book reply × (after ≡ area)
-  Told settled book Settle area reply after = (reply ≡ cond settled Reply.NotTaken Reply.Settled) × (after ≡ area)
-  Told settled book Reopen area reply after = (reply ≡ cond settled Reply.Reopened Reply.NotTaken) × (after ≡ area)
-  Told settled book (Look q) area reply after = (reply ≡ Reply.Look (answer_start q.now book.network.nodes (length area))) × (after ≡ looked o book.network book.colours q.now area)
-  Told settled book (Ask q) area reply after = AskTold settled book q.now area reply after
-  Told settled book Roles area reply after = OfTable settled book (λ role records. reply ≡ Reply.Roles (roles role book.network.nodes)) × (after ≡ area)
-  Told settled book Splits area reply after = OfTable settled book (λ role records. (s : ℕ) × (s + roles book.colours book.network.nodes ≡ roles role book.network.nodes) × (reply ≡ Reply.Splits s)) × (after ≡ area)
-  Told settled book (RoleOf x) area reply after = OfTable settled book (λ role records. reply ≡ Reply.RoleOf (role_answer book.network.nodes role x)) × (after ≡ area)
-  Told settled book (Role r) area reply after = OfTable settled book (λ role records. (v : Result role_record.Role Fault) × RoleTold book.network.nodes role r v × (reply ≡ Reply.Role v)) × (after ≡ area)
-
-  abbrev pub Run : Bool → Book → List Call → List ℕ → List Reply → List ℕ → Type 0
-  Run settled book [] area [] after = after ≡ area
-  Run settled book (c ∷ cs) area (r ∷ rs) after = (next : List ℕ) × Told settled book c area r next × Run (settled_after settled c) (book_after settled book c) cs next rs after
   -- there is one reply for each call
-  Run settled book [] area (r ∷ rs) after = ⊥
-  Run settled book (c ∷ cs) area [] after = ⊥
+  abbrev pub Run : Bool → Book → List Call → RoleTable → List ℕ → List Reply → List ℕ → RoleTable → Type 0
+  Run settled book [] table area [] after last = Same area after table last
+  Run settled book (c ∷ cs) table area (r ∷ rs) after last = (mid : List ℕ) × (next : RoleTable) × Turn settled book c table area r mid next × Run (settled_after settled c) (book_after settled book c) cs next mid rs after last
+  Run settled book [] table area (r ∷ rs) after last = ⊥
+  Run settled book (c ∷ cs) table area [] after last = ⊥
 
 abbrev pub settled_at_last : Bool → List Call → Bool
 settled_at_last settled [] = settled

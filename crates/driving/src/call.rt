@@ -1,4 +1,7 @@
 // The calls of a session, and what they reply.
+ghost use Rattle.std.specs.Prelude.{◌≡◌};
+ghost use Rattle.driving.specs.declared.call.Reply.{Reply};
+
 use network::faults::Fault as NetworkFault;
 use question::faults::Fault as QuestionFault;
 use question::line::Line;
@@ -38,4 +41,25 @@ pub enum Reply {
     Role(Result<Role, SessionFault>),
     // A session in this state does not take the call: it was not given it.
     NotTaken,
+}
+
+// A call, and its reply.
+#[derive(Clone, Copy)]
+pub struct Exchange<'a> {
+    pub call: Call<'a>,
+    // What stood here before the call was given does not count.
+    pub reply: Reply,
+}
+
+impl<'a> Exchange<'a> {
+    // The call, not yet given.
+    pub fn of(call: Call<'a>) -> Exchange<'a>
+        ensures call { result.call ≡ call }
+        ensures reply { result.reply ≡ Reply.NotTaken }
+    {
+        Exchange {
+            call,
+            reply: Reply::NotTaken,
+        }
+    }
 }

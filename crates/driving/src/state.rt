@@ -1,7 +1,7 @@
 // A session, open or settled, that takes calls in turn.
 ghost use Rattle.std.specs.Prelude.{◌≡◌, false, true};
-ghost use Rattle.driving.specs.States.{book_in, book_of, is_settled};
-ghost use Rattle.driving.specs.Turns.{Told, book_after, settled_after};
+ghost use Rattle.driving.specs.States.{book_in, book_of, is_settled, open_in};
+ghost use Rattle.driving.specs.Turns.{Ended, Turn, book_after, settled_after};
 
 use super::call::{Call, Reply};
 use measure::interface::Measure;
@@ -23,7 +23,7 @@ fn call_open<N: Editable, M: Measure>(
 ) -> (Session<N, M>, Reply)
     ensures settled { is_settled result.0 ≡ settled_after false call.entry }
     ensures book { book_of result.0 ≡ book_after false (book_in session) call.entry }
-    ensures told { Told M.Measure.ops false (book_in session) call.entry area.old result.1 area.new }
+    ensures turn { Turn M.Measure.ops false (book_in session) call.entry session.table area.old result.1 area.new (open_in result.0).table }
 {
     let reply = match call {
         Call::Put(i, j, b) => Reply::Put(session.put(i, j, b)),
@@ -48,7 +48,7 @@ fn call_settled<N: Editable, M: Measure>(
 ) -> (Session<N, M>, Reply)
     ensures settled { is_settled result.0 ≡ settled_after true call.entry }
     ensures book { book_of result.0 ≡ book_after true (book_in session.session) call.entry }
-    ensures told { Told M.Measure.ops true (book_in session.session) call.entry area.old result.1 area.new }
+    ensures turn { Turn M.Measure.ops true (book_in session.session) call.entry session.session.table area.old result.1 area.new (open_in result.0).table }
 {
     let reply = match call {
         Call::Reopen => return (Session::Open(session.reopen()), Reply::Reopened),
@@ -68,7 +68,7 @@ impl<N: Editable, M: Measure> Session<N, M> {
     pub fn call(self, call: Call<'_>, area: &mut [u8]) -> (Session<N, M>, Reply)
         ensures settled { is_settled result.0 ≡ settled_after (is_settled self) call.entry }
         ensures book { book_of result.0 ≡ book_after (is_settled self) (book_of self) call.entry }
-        ensures told { Told M.Measure.ops (is_settled self) (book_of self) call.entry area.old result.1 area.new }
+        ensures turn { Turn M.Measure.ops (is_settled self) (book_of self) call.entry (open_in self).table area.old result.1 area.new (open_in result.0).table }
     {
         match self {
             Session::Open(session) => call_open(session, call, area),
@@ -76,9 +76,11 @@ impl<N: Editable, M: Measure> Session<N, M> {
         }
     }
 
-    // The session settled, with the same ties and colours.
+    // The session settled, with the same ties and colours. One that is settled stays as it is.
     pub fn settle(self) -> Settled<N, M>
-        ensures { book_in result.session ≡ book_of self }
+        ensures book { book_in result.session ≡ book_of self }
+        ensures ended { Ended M.Measure.ops (book_of self) result.session.table }
+        ensures settled { is_settled self ≡ true → result.session ≡ open_in self }
     {
         match self {
             Session::Open(session) => session.settle(),

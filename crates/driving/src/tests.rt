@@ -1,5 +1,5 @@
 // Lists of calls, with what they reply and what they leave.
-use super::call::{Call, Reply};
+use super::call::{Call, Exchange, Reply};
 use super::drive::drive;
 use super::known::known_networks;
 use equivalence::vetting::vet;
@@ -24,8 +24,7 @@ fn matrix(heap: Global, n: usize) -> Result<Matrix, Fail> {
 fn without_calls_all_nodes_are_one_role(rt: HostRuntime) -> Result<(), Fail> {
     let heap = rt.alloc();
     let mut area = [7; 4];
-    let (settled, replies) = drive(heap, matrix(heap, 3)?, Kinds, &[], &mut area)?;
-    assert_eq!(rt; replies.len(), 0);
+    let settled = drive(matrix(heap, 3)?, Kinds, &mut [], &mut area);
     assert_eq!(rt; (settled.roles(), settled.splits()), (1, 0));
     assert_eq!(rt; area, [7; 4]);
     Ok(())
@@ -35,30 +34,30 @@ fn without_calls_all_nodes_are_one_role(rt: HostRuntime) -> Result<(), Fail> {
 fn each_call_has_its_reply(rt: HostRuntime) -> Result<(), Fail> {
     let heap = rt.alloc();
     let question = [Line::colour(1), Line::tied(0, 0)];
-    let calls = [
-        Call::Put(0, 1, 1),
-        Call::Put(1, 3, 1),
-        Call::Colour(3, 1),
-        Call::Colour(1, 1),
-        Call::Ask(&question),
-        Call::Reopen,
-        Call::Look(&question),
-        Call::Roles,
-        Call::Step,
-        Call::Splits,
-        Call::Settle,
-        Call::Settle,
-        Call::Put(1, 2, 1),
-        Call::Colour(2, 1),
-        Call::Step,
-        Call::Roles,
-        Call::RoleOf(3),
-        Call::Role(3),
-        Call::Reopen,
-        Call::Step,
+    let mut exchanges = [
+        Exchange::of(Call::Put(0, 1, 1)),
+        Exchange::of(Call::Put(1, 3, 1)),
+        Exchange::of(Call::Colour(3, 1)),
+        Exchange::of(Call::Colour(1, 1)),
+        Exchange::of(Call::Ask(&question)),
+        Exchange::of(Call::Reopen),
+        Exchange::of(Call::Look(&question)),
+        Exchange::of(Call::Roles),
+        Exchange::of(Call::Step),
+        Exchange::of(Call::Splits),
+        Exchange::of(Call::Settle),
+        Exchange::of(Call::Settle),
+        Exchange::of(Call::Put(1, 2, 1)),
+        Exchange::of(Call::Colour(2, 1)),
+        Exchange::of(Call::Step),
+        Exchange::of(Call::Roles),
+        Exchange::of(Call::RoleOf(3)),
+        Exchange::of(Call::Role(3)),
+        Exchange::of(Call::Reopen),
+        Exchange::of(Call::Step),
     ];
     let mut area = [7; 6];
-    let (settled, replies) = drive(heap, matrix(heap, 3)?, Kinds, &calls, &mut area)?;
+    let settled = drive(matrix(heap, 3)?, Kinds, &mut exchanges, &mut area);
     let told = [
         Reply::Put(Ok(())),
         Reply::Put(Err(NetworkFault::Node)),
@@ -85,9 +84,9 @@ fn each_call_has_its_reply(rt: HostRuntime) -> Result<(), Fail> {
         Reply::Reopened,
         Reply::Step(Step::Stable),
     ];
-    assert_eq!(rt; replies.len(), told.len());
-    for (k, (&reply, &wanted)) in replies.iter().zip(told.iter()).enumerate() {
-        assert_eq!(rt; reply, wanted, "call {k}");
+    assert_eq!(rt; exchanges.len(), told.len());
+    for (k, (exchange, &wanted)) in exchanges.iter().zip(told.iter()).enumerate() {
+        assert_eq!(rt; exchange.reply, wanted, "call {k}");
     }
     // Look's rows: node 1 has colour 1, and node 0 has a tie to it.
     assert_eq!(rt; area, [0, 1, 0, 1, 0, 0]);
@@ -100,25 +99,25 @@ fn a_put_after_settling_is_taken_once_the_session_is_open_again(
     rt: HostRuntime,
 ) -> Result<(), Fail> {
     let heap = rt.alloc();
-    let calls = [
-        Call::Put(0, 1, 1),
-        Call::Settle,
-        Call::Roles,
-        Call::Put(2, 1, 1),
-        Call::Reopen,
-        Call::Put(2, 1, 1),
-        Call::Settle,
-        Call::Roles,
-        Call::Role(0),
+    let mut exchanges = [
+        Exchange::of(Call::Put(0, 1, 1)),
+        Exchange::of(Call::Settle),
+        Exchange::of(Call::Roles),
+        Exchange::of(Call::Put(2, 1, 1)),
+        Exchange::of(Call::Reopen),
+        Exchange::of(Call::Put(2, 1, 1)),
+        Exchange::of(Call::Settle),
+        Exchange::of(Call::Roles),
+        Exchange::of(Call::Role(0)),
     ];
-    let (settled, replies) = drive(heap, matrix(heap, 3)?, Kinds, &calls, &mut [])?;
-    assert_eq!(rt; replies.get(2), Some(&Reply::Roles(3)));
-    assert_eq!(rt; replies.get(3), Some(&Reply::NotTaken));
-    assert_eq!(rt; replies.get(5), Some(&Reply::Put(Ok(()))));
-    assert_eq!(rt; replies.get(7), Some(&Reply::Roles(2)));
+    let settled = drive(matrix(heap, 3)?, Kinds, &mut exchanges, &mut []);
+    assert_eq!(rt; exchanges[2].reply, Reply::Roles(3));
+    assert_eq!(rt; exchanges[3].reply, Reply::NotTaken);
+    assert_eq!(rt; exchanges[5].reply, Reply::Put(Ok(())));
+    assert_eq!(rt; exchanges[7].reply, Reply::Roles(2));
     assert_eq!(rt;
-        replies.get(8),
-        Some(&Reply::Role(Ok(Role { head: 0, size: 2 })))
+        exchanges[8].reply,
+        Reply::Role(Ok(Role { head: 0, size: 2 }))
     );
     assert_eq!(rt; vet(settled.network(), &Kinds, settled.table()), Ok(None));
     Ok(())
@@ -136,33 +135,30 @@ fn look_and_ask_share_the_area(rt: HostRuntime) -> Result<(), Fail> {
         Line::not(2),
     ];
     let question = &lines[..];
-    let calls = [
-        Call::Put(0, 3, 1),
-        Call::Put(1, 3, 1),
-        Call::Put(3, 0, 1),
-        Call::Look(question),
-        Call::Look(&question[..0]),
-        Call::Look(&question[1..]),
-        Call::Settle,
-        Call::Ask(question),
-        Call::Ask(&question[1..]),
+    let mut exchanges = [
+        Exchange::of(Call::Put(0, 3, 1)),
+        Exchange::of(Call::Put(1, 3, 1)),
+        Exchange::of(Call::Put(3, 0, 1)),
+        Exchange::of(Call::Look(question)),
+        Exchange::of(Call::Look(&question[..0])),
+        Exchange::of(Call::Look(&question[1..])),
+        Exchange::of(Call::Settle),
+        Exchange::of(Call::Ask(question)),
+        Exchange::of(Call::Ask(&question[1..])),
     ];
     let mut area = [7; 20];
-    let (settled, replies) = drive(heap, exams, Kinds, &calls, &mut area)?;
-    assert_eq!(rt; replies.get(2), Some(&Reply::Put(Err(NetworkFault::Pair))));
-    assert_eq!(rt; replies.get(3), Some(&Reply::Look(Ok(15))));
+    let settled = drive(exams, Kinds, &mut exchanges, &mut area);
+    assert_eq!(rt; exchanges[2].reply, Reply::Put(Err(NetworkFault::Pair)));
+    assert_eq!(rt; exchanges[3].reply, Reply::Look(Ok(15)));
+    assert_eq!(rt; exchanges[4].reply, Reply::Look(Err(QuestionFault::Lines)));
     assert_eq!(rt;
-        replies.get(4),
-        Some(&Reply::Look(Err(QuestionFault::Lines)))
+        exchanges[5].reply,
+        Reply::Look(Err(QuestionFault::Later(0)))
     );
+    assert_eq!(rt; exchanges[7].reply, Reply::Ask(Ok(9)));
     assert_eq!(rt;
-        replies.get(5),
-        Some(&Reply::Look(Err(QuestionFault::Later(0))))
-    );
-    assert_eq!(rt; replies.get(7), Some(&Reply::Ask(Ok(9))));
-    assert_eq!(rt;
-        replies.get(8),
-        Some(&Reply::Ask(Err(QuestionFault::Later(0))))
+        exchanges[8].reply,
+        Reply::Ask(Err(QuestionFault::Later(0)))
     );
     // Ask has written twelve bytes, and look's last row stands behind them.
     for x in 0..5 {
@@ -184,22 +180,17 @@ fn look_and_ask_share_the_area(rt: HostRuntime) -> Result<(), Fail> {
 fn the_network_without_nodes_takes_questions_only(rt: HostRuntime) -> Result<(), Fail> {
     let heap = rt.alloc();
     let question = [Line::colour(0), Line::not(0)];
-    let calls = [
-        Call::Put(0, 0, 1),
-        Call::Colour(0, 1),
-        Call::Step,
-        Call::Look(&question),
-        Call::Settle,
-        Call::Ask(&question),
-        Call::Roles,
+    let mut exchanges = [
+        Exchange::of(Call::Put(0, 0, 1)),
+        Exchange::of(Call::Colour(0, 1)),
+        Exchange::of(Call::Step),
+        Exchange::of(Call::Look(&question)),
+        Exchange::of(Call::Settle),
+        Exchange::of(Call::Ask(&question)),
+        Exchange::of(Call::Roles),
     ];
-    let (settled, replies) = drive(
-        heap,
-        Matrix::new(3, vec![in heap; 0; 8]?),
-        Kinds,
-        &calls,
-        &mut [],
-    )?;
+    let nothing = Matrix::new(3, vec![in heap; 0; 8]?);
+    let settled = drive(nothing, Kinds, &mut exchanges, &mut []);
     let told = [
         Reply::Put(Err(NetworkFault::Node)),
         Reply::Colour(Err(SessionFault::Node)),
@@ -209,8 +200,8 @@ fn the_network_without_nodes_takes_questions_only(rt: HostRuntime) -> Result<(),
         Reply::Ask(Ok(0)),
         Reply::Roles(0),
     ];
-    for (k, (&reply, &wanted)) in replies.iter().zip(told.iter()).enumerate() {
-        assert_eq!(rt; reply, wanted, "call {k}");
+    for (k, (exchange, &wanted)) in exchanges.iter().zip(told.iter()).enumerate() {
+        assert_eq!(rt; exchange.reply, wanted, "call {k}");
     }
     assert_eq!(rt; settled.table().len(), 0);
     Ok(())

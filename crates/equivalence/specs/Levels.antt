@@ -5,6 +5,7 @@
 --   alike             x and y share a role, and have the same total toward every role
 --   level             at first nodes of one class are together, then in each round those alike in the level before
 --   coarsest_table    the level after as many rounds as there are nodes
+--   LevelsCoarsest    of every network and every starting classes, that is the coarsest table
 use Rattle.std.specs.Prelude.{ℕ, zero, suc, Bool, cond, not, ◌&&◌, List, map}
 use Rattle.std.specs.List.{range_with_len}
 use Rattle.network.specs.Meaning.{Meaning}
@@ -12,7 +13,7 @@ use Rattle.measure.specs.Measures.{Operations}
 use Rattle.equivalence.specs.Totals.{total}
 use Rattle.equivalence.specs.Regular.{Table, mates}
 use Rattle.equivalence.specs.Vetted.{table_of}
-use Rattle.equivalence.specs.Coarsest.{some_below}
+use Rattle.equivalence.specs.Coarsest.{Coarsest, some_below}
 
 abbrev pub lowest : (ℕ → Bool) → ℕ → ℕ
 lowest p zero = zero
@@ -30,3 +31,6 @@ level o m classes (suc k) = named m.nodes (alike o m (table_of (level o m classe
 
 abbrev pub coarsest_table : {V : Type 0} → Operations V → Meaning → Table → List ℕ
 coarsest_table o m classes = level o m classes m.nodes
+
+abbrev pub LevelsCoarsest : {V : Type 0} → Operations V → Type 0
+LevelsCoarsest o = (m : Meaning) (classes : Table) → Coarsest o m classes (table_of (coarsest_table o m classes))

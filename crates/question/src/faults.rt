@@ -42,10 +42,8 @@ impl Fault {
         ensures { result ≡ line_of self }
     {
         match self {
-            Fault::Lines => None,
-            Fault::Code(line) => Some(line),
-            Fault::Later(line) => Some(line),
-            Fault::Area => None,
+            Fault::Code(line) | Fault::Later(line) => Some(line),
+            Fault::Lines | Fault::Area => None,
         }
     }
 }

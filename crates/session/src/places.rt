@@ -8,9 +8,10 @@ ghost use Rattle.session.specs.Tables.{head_in, role_in};
 use super::table::Table;
 
 pub(crate) trait Places {
-    // Of how many nodes it has the places, and how many places there are.
+    // How many nodes have a place here.
     ghost nodes: { Self → ℕ };
 
+    // How many places there are.
     ghost width: { Self → ℕ };
 
     ghost places: { Self → truth.Places };

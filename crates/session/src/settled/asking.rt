@@ -26,7 +26,7 @@ impl<N: Editable, M: Measure> Settled<N, M> {
     pub fn ask(&self, question: &[Line], area: &mut [u8]) -> Result<usize, Fault>
         ensures start { result ≡ answer_start question.now (roles (role_in self.now.session.table) (N.Readable.meaning self.now.session.network).nodes) (length area.old) }
         ensures area { area.new ≡ asked M.Measure.ops (N.Readable.meaning self.now.session.network) (class_in self.now.session.table) (role_in self.now.session.table) (head_in self.now.session.table) question.now area.old }
-        ensures network { IfOk result (λ start. (x : ℕ) → x < (N.Readable.meaning self.now.session.network).nodes → slice_index area.new (start + role_in self.now.session.table x) ≡ cond (answer M.Measure.ops (N.Readable.meaning self.now.session.network) (class_in self.now.session.table) each_node question.now x) 1 0) }
+        ensures agrees { IfOk result (λ start. (x : ℕ) → x < (N.Readable.meaning self.now.session.network).nodes → slice_index area.new (start + role_in self.now.session.table x) ≡ cond (answer M.Measure.ops (N.Readable.meaning self.now.session.network) (class_in self.now.session.table) each_node question.now x) 1 0) }
     {
         self.session.answer_by_roles(question, area)
     }

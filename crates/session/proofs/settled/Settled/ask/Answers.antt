@@ -3,8 +3,8 @@ use Rattle.session.proofs.Asked.{ask_agrees}
 use Rattle.session.proofs.Keeping.{role_lt, role_head}
 use Rattle.session.proofs.settled.Settled.ask.Goals as goal
 
-pub returns-clause-network : goal.returns-clause-network
-returns-clause-network g c =
+pub returns-clause-agrees : goal.returns-clause-agrees
+returns-clause-agrees g c =
     let s = c.args.self.now.session in
     let m = g.N.Readable.meaning s.network in
     ask_agrees g.M.Measure.ops g.met.M.Measure.lawful m (class_in s.table) (role_in s.table) (head_in s.table)
