@@ -14,6 +14,8 @@ use std::test::Fail;
 
 // Ties and colours that change.
 mod editing;
+// Look and ask.
+mod questions;
 // The coarsest regular table.
 mod settling;
 // Step by step.
