@@ -1,3 +1,4 @@
 pub mod Drawing
 pub mod Words
 pub mod Judging
+pub mod Asking

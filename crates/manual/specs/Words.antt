@@ -1,5 +1,5 @@
--- What the page says of a table, of a put and of a role. Assumes nothing.
-use Rattle.std.specs.Prelude.{ℕ, List, [], ◌++◌, Some, None, Ok, Err, codes, decimal, Option, Result, ◌==◌, if◌then◌else◌}
+-- What the page says of a table, of a put, of a role and of a question. Assumes nothing.
+use Rattle.std.specs.Prelude.{ℕ, List, [], ◌∷◌, ◌++◌, Some, None, Ok, Err, codes, decimal, Option, Result, ◌==◌, if◌then◌else◌}
 use Rattle.network.specs.Faults.{number}
 use Rattle.network.specs.declared.faults.Fault.{Fault}
 use Rattle.session.specs.declared.role.Role.{Role}
@@ -29,3 +29,19 @@ count_words n noun = decimal n ++ (codes " " ++ (noun ++ (if n == 1 then [] else
 -- role r, with its head and its size
 abbrev pub role_words : ℕ → Role → List ℕ
 role_words r role = decimal r ++ (codes " (head " ++ (decimal role.head ++ (codes ", size " ++ (decimal role.size ++ codes ")"))))
+
+-- numbers behind the first, the last of them with an and
+abbrev pub more_words : List ℕ → List ℕ
+more_words [] = []
+more_words (last ∷ []) = codes " and " ++ decimal last
+more_words (k ∷ l ∷ more) = codes ", " ++ (decimal k ++ more_words (l ∷ more))
+
+-- which of those that the noun names
+abbrev pub those_words : List ℕ → List ℕ → List ℕ
+those_words noun [] = codes "no " ++ noun
+those_words noun (only ∷ []) = noun ++ (codes " " ++ decimal only)
+those_words noun (k ∷ l ∷ more) = noun ++ (codes "s " ++ (decimal k ++ more_words (l ∷ more)))
+
+-- whom a question is true of: roles, and nodes
+abbrev pub answer_words : List ℕ → List ℕ → List ℕ
+answer_words roles nodes = codes "the table names " ++ (those_words (codes "role") roles ++ (codes ", and the network " ++ those_words (codes "node") nodes))

@@ -1,8 +1,10 @@
 // Settles a dispute over a manual page: which of the role tables that the page prints are regular, and under which measure;
-// and which roles each of its networks settles into.
+// which roles each of its networks settles into, and whom a question is true of there.
 
 #![tactic(auto)]
 
+// What a settled session is asked.
+mod asking;
 // A network as a page draws it.
 mod drawing;
 // Whether a table is regular under a measure.
@@ -12,6 +14,7 @@ mod trouble;
 // What the page says.
 mod words;
 
+use asking::{Asks, answered};
 use drawing::{drawn, drawn_sides};
 use equivalence::classical::Classical;
 use judging::{confirmed, judged};
@@ -22,6 +25,7 @@ use network::interface::{Editable, Readable};
 use network::no_loops::NoLoops;
 use network::turned::Turned;
 use session::open::Open;
+use session::settled::Settled;
 use std::{fmt, io};
 use trouble::Trouble;
 use words::{Outcome, Roles, Settlement, Ties, Verdict};
@@ -66,9 +70,24 @@ fn compare<N: Readable>(rt: &impl Print, network: &N, table: &[u8]) -> Result<()
     judge(rt, network, "the", &Tally, table)
 }
 
-// Settles a session, prints its roles and the vet's verdict on them, and opens it again.
-fn settle<N: Editable + Drop, M: Classical + Drop + fmt::Display>(
-    rt: &impl Print,
+// Asks a settled session the measure's question, and prints what it answers.
+fn ask<N: Editable, M: Asks + fmt::Display>(
+    rt: &(impl Print + AllocGlobal),
+    settled: &Settled<N, M>,
+    measure: &M,
+) -> Result<(), Trouble> {
+    let question = measure.question();
+    let answer = answered(rt.alloc(), settled, &question.lines)?;
+    println!(rt;
+        "  Under {measure}, asked who {}, {answer}.",
+        question.words
+    )?;
+    Ok(())
+}
+
+// Settles a session, prints its roles, the vet's verdict on them and what they answer, and opens it again.
+fn settle<N: Editable + Drop, M: Asks + Drop + fmt::Display>(
+    rt: &(impl Print + AllocGlobal),
     session: Open<N, M>,
     measure: &M,
 ) -> Result<Open<N, M>, Trouble> {
@@ -79,12 +98,13 @@ fn settle<N: Editable + Drop, M: Classical + Drop + fmt::Display>(
     )?;
     let verdict = confirmed(&settled, measure)?;
     pronounce(rt, "the settled", measure, settled.table(), verdict)?;
+    ask(rt, &settled, measure)?;
     Ok(settled.reopen())
 }
 
 // Settles a network under a measure, and gives it back.
-fn settle_under<N: Editable + Drop, M: Classical + Copy + fmt::Display>(
-    rt: &impl Print,
+fn settle_under<N: Editable + Drop, M: Asks + Copy + fmt::Display>(
+    rt: &(impl Print + AllocGlobal),
     network: N,
     measure: M,
 ) -> Result<N, Trouble> {
@@ -94,7 +114,10 @@ fn settle_under<N: Editable + Drop, M: Classical + Copy + fmt::Display>(
 }
 
 // One network settled under each measure.
-fn settle_under_each<N: Editable + Drop>(rt: &impl Print, network: N) -> Result<(), Trouble> {
+fn settle_under_each<N: Editable + Drop>(
+    rt: &(impl Print + AllocGlobal),
+    network: N,
+) -> Result<(), Trouble> {
     let network = settle_under(rt, network, Kinds)?;
     let network = settle_under(rt, network, Bundles)?;
     settle_under(rt, network, Tally)?;

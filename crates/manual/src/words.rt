@@ -1,8 +1,9 @@
 // What the page says.
 ghost use Rattle.std.specs.Prelude.{Decides, Some};
 ghost use Rattle.manual.specs.Drawing.{Isolated};
-ghost use Rattle.manual.specs.Words.{verdict_words, outcome_words, count_words, role_words};
+ghost use Rattle.manual.specs.Words.{verdict_words, outcome_words, count_words, role_words, those_words, answer_words};
 
+use super::asking::Answer;
 use measure::interface::Measure;
 use network::faults::Fault;
 use network::interface::{Editable, Readable};
@@ -137,5 +138,38 @@ impl<N: Editable, M: Measure> fmt::Display for Settlement<'_, N, M> {
             separator = ", ";
         }
         Ok(())
+    }
+}
+
+// Some of those that the noun names, by number.
+#[derive(Clone, Copy)]
+struct Those<'a>(&'a str, &'a [usize]);
+
+impl fmt::Display for Those<'_> {
+    ghost output = { λ t. Some (those_words t.0.now t.1.now) };
+
+    fn fmt<W: fmt::Write>(&self, f: &mut fmt::Formatter<W>) -> fmt::Result {
+        let noun = self.0;
+        match self.1 {
+            [] => write!(f, "no {noun}"),
+            [only] => write!(f, "{noun} {only}"),
+            [first, middle @ .., last] => {
+                write!(f, "{noun}s {first}")?;
+                for number in middle {
+                    write!(f, ", {number}")?;
+                }
+                write!(f, " and {last}")
+            }
+        }
+    }
+}
+
+impl fmt::Display for Answer {
+    ghost output = { λ a. Some (answer_words a.roles.items a.nodes.items) };
+
+    fn fmt<W: fmt::Write>(&self, f: &mut fmt::Formatter<W>) -> fmt::Result {
+        let roles = Those("role", &self.roles);
+        let nodes = Those("node", &self.nodes);
+        write!(f, "the table names {roles}, and the network {nodes}")
     }
 }
