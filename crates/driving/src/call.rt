@@ -54,7 +54,7 @@ pub struct Exchange<'a> {
 impl<'a> Exchange<'a> {
     // The call, not yet given.
     pub fn of(call: Call<'a>) -> Exchange<'a>
-        ensures call { result.call ≡ call }
+        ensures call { result.call ≡ call.entry }
         ensures reply { result.reply ≡ Reply.NotTaken }
     {
         Exchange {

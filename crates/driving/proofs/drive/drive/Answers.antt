@@ -1,16 +1,15 @@
-use Rattle.std.proofs.Common.{◌≡◌, ◌∙◌, ℕ, ◌<◌, true, false, Ok, List, length, take, get_or, subst, sym, ap, ap₂, refl, arith}
+use Rattle.std.proofs.Common.{◌≡◌, ◌∙◌, ◌<◌, false, Ok, length, take, get_or, subst, sym, ap, ap₂, refl, arith}
 use Rattle.std.proofs.lemmas.List.{length-map, take_all}
 use Rattle.equivalence.proofs.Levels.{coarsest_level}
-use Rattle.session.specs.declared.table.Table.{Table as RoleTable}
 use Rattle.session.specs.Tables.{class_in, role_in}
 use Rattle.session.specs.Sessions.{Starting}
-use Rattle.driving.specs.Book.{Book, opened}
+use Rattle.driving.specs.Book.{opened}
 use Rattle.driving.specs.declared.call.Call.{Call}
 use Rattle.driving.specs.declared.call.Reply.{Reply}
 use Rattle.driving.specs.declared.call.Exchange.{Exchange}
 use Rattle.driving.specs.States.{book_in, open_in}
-use Rattle.driving.specs.Turns.{Ended, Turn, Run, book_at_last, settled_at_last, book_after, settled_after}
-use Rattle.driving.specs.Promise.{Driven, Kept, Coarse, Answers, calls_of, replies_of, last_book}
+use Rattle.driving.specs.Turns.{Ended, book_at_last, settled_at_last, book_after, settled_after}
+use Rattle.driving.specs.Promise.{Kept, Coarse, Answers, calls_of, replies_of, last_book}
 use Rattle.driving.proofs.Running.{settled_push, book_push, run_push, calls_written, replies_written, calls_more}
 use Rattle.driving.proofs.Turning.{book_same, ended}
 use Rattle.driving.proofs.Promised.{kept_own, coarse_own, answers_own}

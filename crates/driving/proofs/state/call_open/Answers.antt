@@ -1,6 +1,6 @@
 use Rattle.std.proofs.Common.{rules, ◌≡◌, ℕ, List, ◌∙◌, refl, ap, inl, inr}
 use Rattle.equivalence.specs.Vetted.{table_of}
-use Rattle.driving.specs.Book.{Book, after_put, after_colour}
+use Rattle.driving.specs.Book.{after_put, after_colour}
 use Rattle.driving.specs.declared.call.Reply.{Reply}
 use Rattle.driving.specs.States.{book_in}
 use Rattle.driving.proofs.Turning.{book_same, coloured, edited}

@@ -1,4 +1,4 @@
-use Rattle.std.proofs.Common.{◌≡◌, ◌∙◌, refl, ap, inl, inr}
+use Rattle.std.proofs.Common.{◌∙◌, refl, ap, inl, inr}
 use Rattle.driving.specs.declared.call.Reply.{Reply}
 use Rattle.driving.proofs.state.call_settled.Goals as goal
 use Rattle.driving.proofs.state.call_settled.Goals.{in-Look, in-Ask, in-Roles, in-Splits, in-RoleOf, in-Role, in-Put}
