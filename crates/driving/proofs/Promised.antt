@@ -13,7 +13,7 @@ use Rattle.session.specs.declared.settled.Settled.{Settled}
 use Rattle.session.proofs.Keeping.{role_head, role_lt, described, numbered}
 use Rattle.session.proofs.Asked.{ask_byte, look_byte}
 use Rattle.driving.specs.States.{book_in}
-use Rattle.driving.specs.Promise.{Kept, Coarse, Answers}
+use Rattle.driving.specs.Promise.{KeepsBook, Coarse, Answers}
 
 module _ {N M V : Type 0} {r : readable.Ghosts N} {g : measure.Ghosts M V} (laws : Laws g.ops) (s : Settled N M V r g) where
   abbrev m : Meaning
@@ -37,7 +37,7 @@ module _ {N M V : Type 0} {r : readable.Ghosts N} {g : measure.Ghosts M V} (laws
       let told = described s.session.table m.nodes s.session.fits (role x) (omega (arith, numbered s.session.table m.nodes s.session.fits, role_lt s.session.table m.nodes s.session.fits x l)) in
       record { mate = told.mate; lowest = told.lowest }
 
-  pub kept_own : Kept (book_in s.session) s
+  pub kept_own : KeepsBook (book_in s.session) s
   kept_own = record { ties = refl; colours = refl; regular = s.regular; within = s.session.between.within }
 
   pub coarse_own : Coarse (book_in s.session) s

@@ -1,10 +1,13 @@
 -- The small networks with known tables. Assumes nothing.
 --
 --   Edit              a put or a colour, and what it answers
---   after_edits       the book after edits
+--   after_edit(s)     the book after an edit, or after several
+--   AnswersSo         the edit answers so in the book
 --   Answered          each edit answers so, in the book that those before it leave
 --   Drawing           a network without ties, and the edits that draw ties and colours
 --   drawn             the book of a drawing
+--   ties              edits that put byte 1 for each pair, accepted
+--   untied_slots      a network without ties, of which so many pairs may be tied at a time
 --   WeighedBy         one of the three measures
 --   Irregular         a table, and three nodes that show why it is not regular
 --   Shows             they show it

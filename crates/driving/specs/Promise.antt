@@ -3,11 +3,12 @@
 --   last_book    the book after the calls of a session that was made on a network of this meaning
 --   calls_of, replies_of    the calls and the replies of a list of exchanges
 --   Driven       from the starting classes on, each call of the list did what it has to do, one after another; then the session was settled
---   Kept         ties and colours are those of the book, and the table is regular and within the starting classes
+--   KeepsBook    ties and colours are those of the book, and the table is regular and within the starting classes
 --   Coarse       every other regular table within the starting classes has at least as many roles, each inside one of this table's
 --   Answers      a question put to the roles has the network's answer
 --
 -- The starting classes and the totals are the book's, and nothing here is of a particular network or measure.
+-- What each call replies, and so which put and colour is refused and with which number, is in the run (Turns); what look and ask leave in an area, `looked` and `asked`, are the same there, here, and in the contracts of the calls.
 use Rattle.std.specs.Prelude.{◌≡◌, ℕ, ◌+◌, ◌<◌, ◌≤◌, true, false, cond, List, map, length, slice_index, Ok}
 use Rattle.network.specs.Meaning.{Meaning}
 use Rattle.network.specs.declared.interface.Readable as readable
@@ -55,7 +56,7 @@ module _ {N M V : Type 0} {r : readable.Ghosts N} {g : measure.Ghosts M V} (book
   abbrev role : Table
   role = role_in s.session.table
 
-  pub record Kept : Type 0 where
+  pub record KeepsBook : Type 0 where
     pub ties : r.meaning s.session.network ≡ book.network
     pub colours : class_in s.session.table ≡ book.colours
     pub regular : Regular g.ops book.network role

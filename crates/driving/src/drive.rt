@@ -1,7 +1,7 @@
 // A session that is driven by a list of calls, and what is promised of it.
 ghost use Rattle.std.specs.Prelude.{◌≡◌};
 ghost use Rattle.equivalence.specs.Levels.{LevelsCoarsest};
-ghost use Rattle.driving.specs.Promise.{Answers, Coarse, Driven, Kept, calls_of, last_book, replies_of};
+ghost use Rattle.driving.specs.Promise.{Answers, Coarse, Driven, KeepsBook, calls_of, last_book, replies_of};
 
 use super::call::Exchange;
 use super::state::Session;
@@ -19,7 +19,7 @@ pub fn drive<N: Editable, M: Measure>(
 ) -> Settled<N, M>
     ensures calls { calls_of exchanges.new ≡ calls_of exchanges.old }
     ensures driven { Driven (N.Readable.meaning network) (calls_of exchanges.old) area.old (replies_of exchanges.new) area.new result }
-    ensures kept { Kept (last_book (N.Readable.meaning network) (calls_of exchanges.old)) result }
+    ensures kept { KeepsBook (last_book (N.Readable.meaning network) (calls_of exchanges.old)) result }
     ensures coarse { Coarse (last_book (N.Readable.meaning network) (calls_of exchanges.old)) result }
     ensures answers { Answers (last_book (N.Readable.meaning network) (calls_of exchanges.old)) result }
     ensures levels { LevelsCoarsest M.Measure.ops }

@@ -9,7 +9,7 @@ use Rattle.driving.specs.declared.call.Reply.{Reply}
 use Rattle.driving.specs.declared.call.Exchange.{Exchange}
 use Rattle.driving.specs.States.{book_in, open_in}
 use Rattle.driving.specs.Turns.{Ended, book_at_last, settled_at_last, book_after, settled_after}
-use Rattle.driving.specs.Promise.{Kept, Coarse, Answers, calls_of, replies_of, last_book}
+use Rattle.driving.specs.Promise.{KeepsBook, Coarse, Answers, calls_of, replies_of, last_book}
 use Rattle.driving.proofs.Running.{settled_push, book_push, run_push, calls_written, replies_written, calls_more}
 use Rattle.driving.proofs.Turning.{book_same, ended}
 use Rattle.driving.proofs.Promised.{kept_own, coarse_own, answers_own}
@@ -79,7 +79,7 @@ returns-clause-driven g c =
     }
 
 pub returns-clause-kept : goal.returns-clause-kept
-returns-clause-kept g c = subst (λ b. Kept b c.settle.result) (last g c) (kept_own g.met.M.Measure.lawful c.settle.result)
+returns-clause-kept g c = subst (λ b. KeepsBook b c.settle.result) (last g c) (kept_own g.met.M.Measure.lawful c.settle.result)
 
 pub returns-clause-coarse : goal.returns-clause-coarse
 returns-clause-coarse g c = subst (λ b. Coarse b c.settle.result) (last g c) (coarse_own g.met.M.Measure.lawful c.settle.result)
