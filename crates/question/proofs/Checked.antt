@@ -3,14 +3,10 @@ use Rattle.std.proofs.Common.{◌≡◌, ℕ, zero, suc, ◌+◌, ◌-◌, ◌*�
 use Rattle.std.specs.Option.{IsSome}
 use Rattle.question.specs.Lines.{claim, earlier}
 use Rattle.std.proofs.lemmas.Bool.Decides.{nat_tests}
-use Rattle.question.specs.Checks.{line_check, lines_check, answer_start}
+use Rattle.question.specs.Checks.{line_check, lines_check, answer_start, Passes}
 use Rattle.question.specs.declared.line.Line.{Line}
 use Rattle.question.specs.declared.line.Claim.{Claim}
 use Rattle.question.specs.declared.faults.Fault.{Fault}
-
--- a line of a known code, which names only lines before line `at`
-abbrev Passes : ℕ → Line → Type 0
-Passes at line = (c : Claim) × (claim line ≡ Some c) × (earlier at c ≡ true)
 
 passes_earlier : (at : ℕ) (b : Bool) → ◌≡◌ {A = Result (Unit {0}) Fault} (cond b (Ok tt) (Err (Fault.Later at))) (Ok tt) → b ≡ true
 passes_earlier at true e = refl

@@ -1,3 +1,4 @@
 pub mod Checked
+pub mod ChecksLaw
 pub mod Rowing
 pub mod Agreement

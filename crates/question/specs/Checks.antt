@@ -3,10 +3,17 @@
 --   line_check     of line `at`: its code is known (7), and it names only earlier lines (8)
 --   lines_check    line by line, from line `at` on; the first refusal
 --   answer_start   where the last row starts, or the first no of: 1 to 32 lines (6), each line (7, 8), the area (9)
-use Rattle.std.specs.Prelude.{ℕ, ◌+◌, ◌-◌, ◌*◌, cond, ◌||◌, ◌==◌, nat_lt, List, [], ◌∷◌, length, Some, None, Result, Ok, Err}
+--   line_at        a line of the question
+--   Passes         line k is of a known code, and names only lines before it
+--   Askable        1 to 32 lines, all of which pass, and an area with a byte for each line and place
+--   Refuses        what each refusal says
+--   ChecksLaw      so it is with every question: an answer where it is askable, and else what the refusal says
+use Rattle.std.specs.Prelude.{◌≡◌, ◌<◌, ◌≤◌, ◌⊎◌, true, false, slice_index_or, MatchResult, ℕ, ◌+◌, ◌-◌, ◌*◌, cond, ◌||◌, ◌==◌, nat_lt, List, [], ◌∷◌, length, Some, None, Result, Ok, Err}
 use Rattle.question.specs.Lines.{claim, earlier}
 use Rattle.question.specs.declared.line.Line.{Line}
+use Rattle.question.specs.declared.line.Claim.{Claim}
 use Rattle.question.specs.declared.faults.Fault.{Fault}
+use Rattle.question.specs.declared.faults.Fault.TheVariants.{Lines, Code, Later, Area}
 
 abbrev pub line_check : ℕ → Line → Result (Unit {0}) Fault
 line_check at line = elim (claim line) [ Some c ↦ cond (earlier at c) (Ok tt) (Err (Fault.Later at)) | None ↦ Err (Fault.Code at) ]
@@ -24,3 +31,24 @@ answer_start lines width size =
       | Ok _ ↦ cond (nat_lt size (length lines * width)) (Err Fault.Area) (Ok (length lines * width - width))
       | Err f ↦ Err f
     ])
+
+abbrev pub line_at : List Line → ℕ → Line
+line_at lines k = slice_index_or lines k (record { code = 0; k = 0; l = 0; byte = 0 })
+
+abbrev pub Passes : ℕ → Line → Type 0
+Passes k line = (c : Claim) × (claim line ≡ Some c) × (earlier k c ≡ true)
+
+pub record Askable (lines : List Line) (width size : ℕ) : Type 0 where
+  pub some : 0 < length lines
+  pub few : length lines ≤ 32
+  pub each : (k : ℕ) → k < length lines → Passes k (line_at lines k)
+  pub room : length lines * width ≤ size
+
+abbrev pub Refuses : List Line → ℕ → ℕ → Fault → Type 0
+Refuses lines width size Lines = (length lines ≡ 0) ⊎ (32 < length lines)
+Refuses lines width size (Code k) = (k < length lines) × ((j : ℕ) → j < k → Passes j (line_at lines j)) × (claim (line_at lines k) ≡ None)
+Refuses lines width size (Later k) = (k < length lines) × ((j : ℕ) → j < k → Passes j (line_at lines j)) × ((c : Claim) × (claim (line_at lines k) ≡ Some c) × (earlier k c ≡ false))
+Refuses lines width size Area = ((k : ℕ) → k < length lines → Passes k (line_at lines k)) × (size < length lines * width)
+
+abbrev pub ChecksLaw : Type 0
+ChecksLaw = (lines : List Line) (width size : ℕ) → MatchResult (answer_start lines width size) (λ start. Askable lines width size × (start + width ≡ length lines * width)) (Refuses lines width size)

@@ -1,6 +1,6 @@
 // Whether a question can be answered.
 ghost use Rattle.std.specs.Prelude.{◌≡◌};
-ghost use Rattle.question.specs.Checks.{line_check, lines_check, answer_start};
+ghost use Rattle.question.specs.Checks.{line_check, lines_check, answer_start, ChecksLaw};
 
 use super::faults::Fault;
 use super::line::Line;
@@ -26,8 +26,10 @@ fn check_lines(question: &[Line]) -> Result<(), Fault>
 }
 
 // Where the last row starts, in an area of so many bytes with a row of this width for each line.
+#[tactic(auto, using(crate::proofs::ChecksLaw::checks_law))]
 pub fn check(question: &[Line], width: usize, size: usize) -> Result<usize, Fault>
-    ensures { result ≡ answer_start question.now width size }
+    ensures answer { result ≡ answer_start question.now width size }
+    ensures law { ChecksLaw }
 {
     if question.is_empty() || question.len() > 32 {
         return Err(Fault::Lines);
