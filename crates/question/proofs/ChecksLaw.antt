@@ -4,7 +4,7 @@ use Rattle.std.proofs.Math.Nat.{mul-le-mul_right}
 use Rattle.std.proofs.lemmas.Bool.{cases_eq}
 use Rattle.std.proofs.lemmas.Bool.Decides.{nat_tests}
 use Rattle.question.specs.Lines.{claim, earlier}
-use Rattle.question.specs.Checks.{line_check, lines_check, line_at, Passes, Askable, Refuses, ChecksLaw}
+use Rattle.question.specs.Checks.{line_check, lines_check, line_at, OneTo32, Passes, Askable, Refuses, ChecksLaw}
 use Rattle.question.specs.declared.line.Line.{Line}
 use Rattle.question.specs.declared.line.Claim.{Claim}
 use Rattle.question.specs.declared.faults.Fault.{Fault}
@@ -58,14 +58,18 @@ module _ (lines : List Line) (width size : ℕ) where
   every : All 0 lines → (k : ℕ) → k < length lines → Passes k (line_at lines k)
   every each k l = let same : 0 + k ≡ k = omega arith in rw same at (each k l)
 
-  refuses : (f : Fault) → First 0 lines f → Refuses lines width size f
-  refuses Lines first = absurd first.3
-  refuses (Code j) (k, l, before, (is, bad)) = let same : j ≡ k = omega (arith, is) in rw same (l, λ i h. let here : 0 + i ≡ i = omega arith in rw here at (before i h), bad)
-  refuses (Later j) (k, l, before, (is, bad)) =
-      let same : j ≡ k = omega (arith, is) in
-      let here : 0 + k ≡ k = omega arith in
-      rw same (l, λ i h. let there : 0 + i ≡ i = omega arith in rw there at (before i h), rw here at bad)
-  refuses Area first = absurd first.3
+  module _ (counted : OneTo32 lines) where
+    refuses : (f : Fault) → First 0 lines f → Refuses lines width size f
+    refuses Lines first = absurd first.3
+    refuses (Code j) (k, l, before, (is, bad)) = let same : j ≡ k = omega (arith, is) in rw same (record { counted = counted; line = l; before = λ i h. let here : 0 + i ≡ i = omega arith in rw here at (before i h) }, bad)
+    refuses (Later j) (k, l, before, (is, bad)) =
+        let same : j ≡ k = omega (arith, is) in
+        let here : 0 + k ≡ k = omega arith in
+        rw same (record { counted = counted; line = l; before = λ i h. let there : 0 + i ≡ i = omega arith in rw there at (before i h) }, rw here at bad)
+    refuses Area first = absurd first.3
+
+  one_to_32 : (eqb (length lines) 0 || ltb 32 (length lines)) ≡ false → OneTo32 lines
+  one_to_32 number = record { some = grind (arith, nat_tests); few = grind (arith, nat_tests) }
 
   law : (b c : Bool) → (eqb (length lines) 0 || ltb 32 (length lines)) ≡ b → ltb size needed ≡ c → (r : Result (Unit {0}) Fault) → MatchResult r (λ _. All 0 lines) (First 0 lines) → MatchResult {T = ℕ} {E = Fault} (cond b (Err Lines) (elim r [ Ok _ ↦ cond c (Err Area) (Ok (needed - width)) | Err f ↦ Err f ])) (λ start. Askable lines width size × (start + width ≡ needed)) (Refuses lines width size)
   law true c number area r told =
@@ -73,12 +77,12 @@ module _ (lines : List Line) (width size : ℕ) where
         | inl none ↦ inl none
         | inr some ↦ inr (grind (arith, nat_tests))
       ]
-  law false c number area (Err f) told = refuses f told
-  law false true number area (Ok u) told = (every told, grind (arith, nat_tests))
+  law false c number area (Err f) told = refuses (one_to_32 number) f told
+  law false true number area (Ok u) told = (one_to_32 number, every told, grind (arith, nat_tests))
   law false false number area (Ok u) told =
-      let some : 0 < length lines = grind (arith, nat_tests) in
-      let row = mul-le-mul_right {m = 1} {n = length lines} width (omega arith) in
-      (record { some = some; few = grind (arith, nat_tests); each = every told; room = grind (arith, nat_tests) }, omega (arith, row))
+      let counted = one_to_32 number in
+      let row = mul-le-mul_right {m = 1} {n = length lines} width (omega (arith, counted.some)) in
+      (record { counted = counted; each = every told; room = grind (arith, nat_tests) }, omega (arith, row))
 
 pub checks_law : ChecksLaw
 checks_law lines width size = law lines width size _ _ refl refl (lines_check 0 lines) (lines_told 0 lines)

@@ -28,9 +28,10 @@ pub enum Claim {
 }
 
 impl Line {
-    // The nodes of colour c.
+    // The nodes of colour c. Operands that its code has not are 0.
     pub fn colour(c: u8) -> Line
-        ensures { claim result ≡ Some (Claim.Colour c) }
+        ensures line { result ≡ record { code = 0; k = 0; l = 0; byte = c } }
+        ensures claim { claim result ≡ Some (Claim.Colour c) }
     {
         Line {
             code: 0,
@@ -41,7 +42,8 @@ impl Line {
 
     // The nodes that line k is false of.
     pub fn not(k: usize) -> Line
-        ensures { claim result ≡ Some (Claim.Not k) }
+        ensures line { result ≡ record { code = 1; k = k; l = 0; byte = 0 } }
+        ensures claim { claim result ≡ Some (Claim.Not k) }
     {
         Line {
             code: 1,
@@ -52,7 +54,8 @@ impl Line {
 
     // The nodes that lines k and l are true of.
     pub fn and(k: usize, l: usize) -> Line
-        ensures { claim result ≡ Some (Claim.And k l) }
+        ensures line { result ≡ record { code = 2; k = k; l = l; byte = 0 } }
+        ensures claim { claim result ≡ Some (Claim.And k l) }
     {
         Line {
             code: 2,
@@ -64,7 +67,8 @@ impl Line {
 
     // The nodes whose total toward those of line k holds test t.
     pub fn tied(k: usize, t: u8) -> Line
-        ensures { claim result ≡ Some (Claim.Tied k t) }
+        ensures line { result ≡ record { code = 3; k = k; l = 0; byte = t } }
+        ensures claim { claim result ≡ Some (Claim.Tied k t) }
     {
         Line {
             code: 3,

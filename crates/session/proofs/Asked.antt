@@ -1,65 +1,74 @@
--- What the last row of an area says. Assumes nothing.
-use Rattle.std.proofs.Common.{◌≡◌, ℕ, ◌+◌, ◌-◌, ◌*◌, ◌<◌, Bool, cond, List, ◌++◌, length, get_or, flat_map, slice_index, Result, Ok, Err, IfOk, ap, sym, ◌∙◌, suc-mul, arith}
+-- What the rows of an area say, after look and after ask. Assumes nothing.
+use Rattle.std.proofs.Common.{◌≡◌, ℕ, suc, ◌+◌, ◌-◌, ◌*◌, ◌<◌, Bool, cond, List, ◌++◌, length, get_or, flat_map, slice_index, Result, Ok, Err, IfOk, refl, ap, sym, ◌∙◌, suc-mul, arith}
+use Rattle.std.proofs.Math.Nat.{mul-le-mul_right}
 use Rattle.std.proofs.lemmas.List.{get_or_append_left}
 use Rattle.network.specs.Meaning.{Meaning}
 use Rattle.measure.specs.Measures.{Operations, Laws}
 use Rattle.equivalence.specs.Regular.{Table, Regular}
-use Rattle.equivalence.specs.Coarsest.{Refines, roles}
 use Rattle.question.specs.Checks.{answer_start}
-use Rattle.question.specs.Truth.{row, rows, answer, each_node, each_role}
-use Rattle.question.specs.Areas.{row_bytes, looked, asked}
+use Rattle.question.specs.Truth.{Places, row, rows, answer, each_node, each_role}
+use Rattle.question.specs.Areas.{row_bytes, area_after, NodesAnswered}
 use Rattle.question.specs.declared.line.Line.{Line}
 use Rattle.question.specs.declared.faults.Fault.{Fault}
 use Rattle.question.proofs.Checked.{accepted}
 use Rattle.question.proofs.Rowing as rowing
 use Rattle.question.proofs.Agreement.{roles_answer}
+use Rattle.session.specs.Questions.{ask_answer, look_answer, after_ask, after_look, AnswersNodes, AnswersRoles}
+use Rattle.session.specs.States.{State, IsSound, role, role_count}
 use Rattle.session.proofs.Rows.{read_row, length_rows}
 
-last_row : (width : ℕ) (told : List (ℕ → Bool)) (rest : List ℕ) (n p : ℕ) → length told ≡ n → 0 < n → p < width → get_or (flat_map (row_bytes width) told ++ rest) (n * width - width + p) 0 ≡ cond (row told (n - 1) p) 1 0
-last_row width told rest n p count some l =
-    let one_less : (n - 1) * width + width ≡ n * width = sym (suc-mul (n - 1) width) ∙ ap (λ k. k * width) (omega arith) in
-    let at : n * width - width + p ≡ (n - 1) * width + p = omega (arith, one_less) in
-    rw at
-    (get_or_append_left (flat_map (row_bytes width) told) rest 0 ((n - 1) * width + p) (omega (arith, length_rows width told, ap (λ k. k * width) count, one_less))
-    ∙ read_row width told (n - 1) p (omega arith) l)
+plus_one : (k : ℕ) → suc k ≡ k + 1
+plus_one k = omega arith
 
-module _ {V : Type 0} (o : Operations V) where
-  -- after look, each node has its answer in the last row
-  pub look_byte :
-      (m : Meaning) (colours : Table) (lines : List Line) (area : List ℕ) (start : ℕ)
-      → answer_start lines m.nodes (length area) ≡ Ok start
-      → (x : ℕ)
-      → x < m.nodes
-      → slice_index (looked o m colours lines area) (start + x) ≡ cond (answer o m colours each_node lines x) 1 0
-  look_byte m colours lines area start passes x l =
-      let (some, at) = accepted lines m.nodes (length area) start passes in
-      rw (passes, sym at) (last_row m.nodes (rows o m colours each_node lines) _ (length lines) x (rowing.length_rows o m colours each_node lines) some l)
+one_less : (n : ℕ) → 0 < n → suc (n - 1) ≡ n
+one_less n some = omega arith
 
-  module _
-      (laws : Laws o)
-      (m : Meaning)
-      (colours role : Table)
-      (head : ℕ → ℕ)
-      (regular : Regular o m role)
-      (within : Refines m.nodes role colours)
-      (heads : (x : ℕ) → x < m.nodes → (head (role x) < m.nodes) × (role (head (role x)) ≡ role x))
-      (ranged : (x : ℕ) → x < m.nodes → role x < roles role m.nodes)
-      (lines : List Line)
-      (area : List ℕ) where
-    -- after ask, each node's role has the node's answer there
-    pub ask_byte : (start : ℕ) → answer_start lines (roles role m.nodes) (length area) ≡ Ok start → (x : ℕ) → x < m.nodes → slice_index (asked o m colours role head lines area) (start + role x) ≡ cond (answer o m colours each_node lines x) 1 0
-    ask_byte start passes x l =
-        let width = roles role m.nodes in
-        let (some, at) = accepted lines width (length area) start passes in
-        let told = rows o m colours (each_role role head) lines in
-        rw (passes, sym at)
-        (last_row width told _ (length lines) (role x) (rowing.length_rows o m colours (each_role role head) lines) some (ranged x l)
-        ∙ ap {B = ℕ} (λ b. cond b 1 0) (roles_answer o laws m colours role head regular within heads lines (length lines - 1) x l))
+-- a byte of the row of line k
+row_byte : (width : ℕ) (told : List (ℕ → Bool)) (rest : List ℕ) (k p : ℕ) → k < length told → p < width → get_or (flat_map (row_bytes width) told ++ rest) (k * width + p) 0 ≡ cond (row told k p) 1 0
+row_byte width told rest k p line l =
+    let within : k * width + width < length told * width + 1 = omega (arith, suc-mul k width, mul-le-mul_right {m = k + 1} {n = length told} width (omega (arith, line)), ap (λ j. j * width) (plus_one k)) in
+    get_or_append_left (flat_map (row_bytes width) told) rest 0 (k * width + p) (omega (arith, length_rows width told, within))
+    ∙ read_row width told k p line l
 
-    pub ask_agrees :
-        (new : List ℕ) (r : Result ℕ Fault)
-        → r ≡ answer_start lines (roles role m.nodes) (length area)
-        → new ≡ asked o m colours role head lines area
-        → IfOk r (λ start. (x : ℕ) → x < m.nodes → slice_index new (start + role x) ≡ cond (answer o m colours each_node lines x) 1 0)
-    ask_agrees new (Err f) is after = tt
-    ask_agrees new (Ok start) is after = λ x l. rw after (ask_byte start (sym is) x l)
+module _ {V : Type 0} (o : Operations V) (m : Meaning) (colours : Table) (lines : List Line) where
+  abbrev told : Places → List (ℕ → Bool)
+  told at = rows o m colours at lines
+
+  -- rows at places, where they say at each node's place what the network's rows say of the node
+  nodes_answered :
+      (at : Places) (width start : ℕ) (area : List ℕ)
+      → answer_start lines width (length area) ≡ Ok start
+      → ((x : ℕ) → x < m.nodes → at.place x < width)
+      → ((k x : ℕ) → x < m.nodes → row (told at) k (at.place x) ≡ row (told each_node) k x)
+      → NodesAnswered o m colours lines at.place width start (area_after (answer_start lines width (length area)) width (told at) area)
+  nodes_answered at width start area passes ranged agree =
+      let (some, at_last) = accepted lines width (length area) start passes in
+      let byte : (k x : ℕ) → k < length lines → x < m.nodes → slice_index (area_after (answer_start lines width (length area)) width (told at) area) (k * width + at.place x) ≡ cond (row (told each_node) k x) 1 0 =
+      λ k x line node. rw passes
+          (row_byte width (told at) _ k (at.place x) (omega (arith, line, rowing.length_rows o m colours at lines)) (ranged x node)
+          ∙ ap {B = ℕ} (λ b. cond b 1 0) (agree k x node))
+      in
+      let last_start : start ≡ (length lines - 1) * width = omega (arith, some, at_last, suc-mul (length lines - 1) width, ap (λ k. k * width) (one_less (length lines) some)) in
+      record {
+        each = byte;
+        last = λ x node. rw last_start (byte (length lines - 1) x (omega (arith, some)) node);
+      }
+
+module _ {V : Type 0} (o : Operations V) (s : State) (lines : List Line) (area : List ℕ) (start : ℕ) where
+  pub look_answers : look_answer s lines area ≡ Ok start → AnswersNodes o s lines start (after_look o s lines area)
+  look_answers passes = nodes_answered o s.network s.colours lines each_node s.network.nodes start area passes (λ x l. l) (λ k x l. refl)
+
+  pub ask_answers : Laws o → IsSound o s → Regular o s.network (role s) → ask_answer s lines area ≡ Ok start → AnswersRoles o s lines start (after_ask o s lines area)
+  ask_answers laws sound regular passes =
+      nodes_answered o s.network s.colours lines (each_role (role s) s.head) (role_count s) start area passes sound.ranged
+      (roles_answer o laws s.network s.colours (role s) s.head regular sound.between.within
+      (λ x l. let told = sound.described (role s x) (sound.ranged x l) in (told.node, told.mate)) lines)
+
+-- the same of what ask gives back
+pub ask_agrees :
+    {V : Type 0} (o : Operations V) (laws : Laws o) (s : State) (sound : IsSound o s) (regular : Regular o s.network (role s)) (lines : List Line) (area new : List ℕ) (r : Result ℕ Fault)
+    → r ≡ ask_answer s lines area
+    → new ≡ after_ask o s lines area
+    → IfOk r (λ start. AnswersRoles o s lines start new)
+ask_agrees o laws s sound regular lines area new (Err f) is after = tt
+ask_agrees o laws s sound regular lines area new (Ok start) is after = rw after (ask_answers o s lines area start laws sound regular (sym is))

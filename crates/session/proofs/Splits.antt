@@ -6,14 +6,13 @@ use Rattle.network.proofs.Counting.{count_below_one}
 use Rattle.network.specs.Meaning.{Meaning}
 use Rattle.measure.specs.Measures.{Operations, Laws}
 use Rattle.equivalence.specs.Totals.{total}
-use Rattle.equivalence.specs.Coarsest.{Between, roles}
 use Rattle.equivalence.specs.Splitting.{Even, Split, members}
 use Rattle.equivalence.proofs.Parting.{split_parted}
-use Rattle.equivalence.proofs.Refinement.{between_split}
 use Rattle.session.specs.Roles.{head_at, record_at}
 use Rattle.session.specs.Leaving.{apart, parted}
 use Rattle.session.specs.Steps.{InTwo}
-use Rattle.session.specs.Tables.{class_in, role_in}
+use Rattle.session.specs.States.{state_with}
+use Rattle.session.specs.Tables.{role_in}
 use Rattle.session.proofs.Keeping.{numbered}
 use Rattle.equivalence.specs.Vetted.{table_of}
 use Rattle.session.specs.declared.table.Table.{Table as RoleTable}
@@ -64,22 +63,15 @@ module _ {V : Type 0} (o : Operations V) (laws : Laws o) (m : Meaning) (old : Ro
         (λ k l e. refl)
         (λ k l. grind (arith, nat_tests, moved k (inside k l), flagged k l))
 
-    pub two_leaving : length new.role_of.items ≡ length old.role_of.items → length new.roles.items ≡ fresh + 1 → new.splits ≡ old.splits + 1 → new.colours ≡ old.colours → InTwo o m old new r c fresh
+    pub two_leaving : length new.role_of.items ≡ length old.role_of.items → length new.roles.items ≡ fresh + 1 → new.splits ≡ old.splits + 1 → new.colours ≡ old.colours → InTwo o (state_with m old) (state_with m new) r c fresh
     two_leaving still one_more count same =
         record {
-          split = split_leaving;
+          network = refl;
+          colours = ap (λ (cs : List ℕ). table_of cs) same;
+          part = omega (arith, numbered old m.nodes fits);
+          toward = omega (arith, numbered old m.nodes fits);
           next = numbered old m.nodes fits;
+          split = split_leaving;
           more = omega (arith, numbered old m.nodes fits, numbered new m.nodes (still ∙ fits), one_more);
           count = count;
-          colours = same;
         }
-
-module _ {V : Type 0} (o : Operations V) (laws : Laws o) (m : Meaning) (old new : RoleTable) (part toward fresh : ℕ) (two : InTwo o m old new part toward fresh) where
-  -- what an open session keeps
-  pub between_two : Between o m (class_in old) (role_in old) → Between o m (class_in new) (role_in new)
-  between_two between = rw two.colours (between_split o laws m (class_in old) (role_in old) (role_in new) part toward fresh between two.split)
-
-  pub counted_two : length new.role_of.items ≡ m.nodes → old.splits + roles (class_in old) m.nodes ≡ roles (role_in old) m.nodes → new.splits + roles (class_in new) m.nodes ≡ length new.roles.items
-  counted_two fits counted =
-      let same : roles (class_in new) m.nodes ≡ roles (class_in old) m.nodes = ap (λ (xs : List ℕ). roles (table_of xs) m.nodes) two.colours in
-      omega (arith, same, counted, two.count, two.more, numbered new m.nodes fits)

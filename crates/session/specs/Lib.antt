@@ -1,8 +1,12 @@
 pub mod Roles
-pub mod Sessions
-pub mod Leaving
-pub mod Marks
 pub mod Tables
-pub mod Faults
+pub mod States
+pub mod Sessions
 pub mod Steps
 pub mod Tellings
+pub mod Questions
+pub mod OpenSessions
+pub mod SettledSessions
+pub mod Leaving
+pub mod Marks
+pub mod Faults

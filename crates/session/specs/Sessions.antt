@@ -1,18 +1,43 @@
--- What a session starts from, and what a colour answers and leaves. Assumes nothing.
+-- What a session starts from, what a colour answers and leaves, and what a session settles into. Assumes nothing.
 --
 --   Starting         the table is at the starting classes: nodes share a role exactly where they share a class
+--   Begun            a state of these ties and colours at their starting classes, with no role split
 --   colour_answer    accepted, or 3 where there is no such node
 --   colours_after    the colours after a colour, refused or not
-use Rattle.std.specs.Prelude.{ℕ, cond, List, slice_set, nat_lt, Result, Ok, Err}
+--   Edited           the state after a put or a colour: begun anew where it is accepted, as it was where it is refused
+--   Ended            the state after a settle: the coarsest table of the same ties and colours, with its splits counted
+use Rattle.std.specs.Prelude.{◌≡◌, ℕ, ◌+◌, cond, ◌&&◌, ◌==◌, nat_lt, Result, Ok, Err, OnOk, OnErr}
+use Rattle.network.specs.Meaning.{Meaning}
+use Rattle.measure.specs.Measures.{Operations}
 use Rattle.equivalence.specs.Regular.{Table}
-use Rattle.equivalence.specs.Coarsest.{Refines}
+use Rattle.equivalence.specs.Coarsest.{Coarsest, Refines}
+use Rattle.session.specs.States.{State, role, role_count, class_count}
 use Rattle.session.specs.declared.faults.Fault.{Fault}
 
 abbrev pub Starting : ℕ → Table → Table → Type 0
 Starting n classes role = Refines n role classes × Refines n classes role
 
+pub record Begun (m : Meaning) (colours : Table) (s : State) : Type 0 where
+  pub network : s.network ≡ m
+  pub colours : s.colours ≡ colours
+  pub start : Starting m.nodes colours (role s)
+  pub splits : s.splits ≡ 0
+
 abbrev pub colour_answer : ℕ → ℕ → Result (Unit {0}) Fault
 colour_answer n i = cond (nat_lt i n) (Ok tt) (Err Fault.Node)
 
-abbrev pub colours_after : ℕ → List ℕ → ℕ → ℕ → List ℕ
-colours_after n colours i c = cond (nat_lt i n) (slice_set colours i c) colours
+abbrev pub colours_after : ℕ → Table → ℕ → ℕ → Table
+colours_after n colours i c x = cond (nat_lt i n && x == i) c (colours x)
+
+-- m and colours: what the put or the colour makes of ties and colours
+pub record Edited {F : Type 0} (answer : Result (Unit {0}) F) (m : Meaning) (colours : Table) (old new : State) : Type 0 where
+  pub network : new.network ≡ m
+  pub colours : new.colours ≡ colours
+  pub accepted : OnOk answer (Begun m colours new)
+  pub refused : OnErr answer (new ≡ old)
+
+pub record Ended {V : Type 0} (o : Operations V) (old new : State) : Type 0 where
+  pub network : new.network ≡ old.network
+  pub colours : new.colours ≡ old.colours
+  pub coarsest : Coarsest o new.network new.colours (role new)
+  pub splits : new.splits + class_count new ≡ role_count new

@@ -1,25 +1,25 @@
--- What a step does to the table of roles. Assumes nothing.
+-- What a step does. Assumes nothing.
 --
 --   InTwo      one role is split in two toward another; there is one role more, and the count of splits is one more
 --   Stepped    stable, and nothing is altered; or one role is split in two
-use Rattle.std.specs.Prelude.{◌≡◌, ℕ, ◌+◌}
-use Rattle.network.specs.Meaning.{Meaning}
+use Rattle.std.specs.Prelude.{◌≡◌, ℕ, ◌+◌, ◌<◌}
 use Rattle.measure.specs.Measures.{Operations}
-use Rattle.equivalence.specs.Coarsest.{roles}
 use Rattle.equivalence.specs.Splitting as splitting
-use Rattle.session.specs.Tables.{role_in}
+use Rattle.session.specs.States.{State, role, role_count}
 use Rattle.session.specs.declared.step.Step.{Step}
 use Rattle.session.specs.declared.step.Step.TheVariants.{Stable, Split}
-use Rattle.session.specs.declared.table.Table.{Table as RoleTable}
 
-pub record InTwo {V : Type 0} (o : Operations V) (m : Meaning) (old new : RoleTable) (part toward fresh : ℕ) : Type 0 where
-  pub split : splitting.Split o m (role_in old) (role_in new) part toward fresh
-  -- the new role has the next number
-  pub next : fresh ≡ roles (role_in old) m.nodes
-  pub more : roles (role_in new) m.nodes ≡ roles (role_in old) m.nodes + 1
-  pub count : new.splits ≡ old.splits + 1
+pub record InTwo {V : Type 0} (o : Operations V) (old new : State) (part toward fresh : ℕ) : Type 0 where
+  pub network : new.network ≡ old.network
   pub colours : new.colours ≡ old.colours
+  -- both are roles of the old table, and the new role has the next number
+  pub part : part < role_count old
+  pub toward : toward < role_count old
+  pub next : fresh ≡ role_count old
+  pub split : splitting.Split o old.network (role old) (role new) part toward fresh
+  pub more : role_count new ≡ role_count old + 1
+  pub count : new.splits ≡ old.splits + 1
 
-abbrev pub Stepped : {V : Type 0} → Operations V → Meaning → RoleTable → RoleTable → Step → Type 0
-Stepped o m old new Stable = new ≡ old
-Stepped o m old new (Split part toward fresh) = InTwo o m old new part toward fresh
+abbrev pub Stepped : {V : Type 0} → Operations V → State → State → Step → Type 0
+Stepped o old new Stable = new ≡ old
+Stepped o old new (Split part toward fresh) = InTwo o old new part toward fresh

@@ -1,10 +1,8 @@
 // An open session: ties and colours change, and roles are split step by step.
-ghost use Rattle.std.specs.Prelude.{◌≡◌, ℕ, ◌+◌, length, OnOk, OnErr};
-ghost use Rattle.arrayvec.specs.ArrayVec.{array_vec_len};
+ghost use Rattle.std.specs.Prelude.{◌≡◌};
 ghost use Rattle.network.specs.Put.{put_answer, put_after};
-ghost use Rattle.equivalence.specs.Coarsest.{Between, roles};
-ghost use Rattle.session.specs.Sessions.{Starting, colour_answer, colours_after};
-ghost use Rattle.session.specs.Tables.{class_in, role_in};
+ghost use Rattle.session.specs.States.{IsSound, state_with};
+ghost use Rattle.session.specs.Sessions.{Begun, Edited, colour_answer, colours_after};
 
 use super::faults::Fault;
 use super::table::Table;
@@ -26,20 +24,17 @@ pub struct Open<N: Editable, M: Measure> {
     network: N,
     measure: M,
     table: Table,
-    ghost fits: { length table.role_of.items ≡ (N.Readable.meaning network).nodes },
-    ghost between: { Between M.Measure.ops (N.Readable.meaning network) (class_in table) (role_in table) },
-    ghost counted: { table.splits + roles (class_in table) (N.Readable.meaning network).nodes ≡ array_vec_len table.roles },
+    ghost sound: { IsSound M.Measure.ops (state_with (N.Readable.meaning network) table) },
 }
 
 impl<N: Editable, M: Measure> Open<N, M> {
+    ghost use Rattle.session.specs.OpenSessions.{state_of, parts_of};
+
     // Every colour is 0.
-    #[tactic(auto, using(crate::proofs::Keeping::between_started, crate::proofs::Keeping::counted_start))]
+    #[tactic(auto, using(crate::proofs::Keeping::sound_begun))]
     pub fn new(network: N, measure: M) -> Self
-        ensures network { result.network ≡ network }
-        ensures measure { result.measure ≡ measure }
-        ensures colours { (x : ℕ) → class_in result.table x ≡ 0 }
-        ensures start { Starting (N.Readable.meaning network).nodes (class_in result.table) (role_in result.table) }
-        ensures splits { result.table.splits ≡ 0 }
+        ensures begun { Begun (N.Readable.meaning network) (λ _. 0) (state_of result) }
+        ensures parts { parts_of result ≡ (network, measure) }
     {
         let table = Table::new(network.nodes());
         Open {
@@ -49,28 +44,24 @@ impl<N: Editable, M: Measure> Open<N, M> {
         }
     }
 
-    #[tactic(auto, using(crate::proofs::Keeping::between_started, crate::proofs::Keeping::counted_start))]
+    #[tactic(auto, using(crate::proofs::Keeping::sound_begun))]
     pub fn put(&mut self, i: usize, j: usize, b: u8) -> Result<(), network::faults::Fault>
-        ensures answer { result ≡ put_answer (N.Readable.meaning self.old.network) i j b }
-        ensures network { N.Readable.meaning self.new.network ≡ put_after (N.Readable.meaning self.old.network) i j b }
-        ensures measure { self.new.measure ≡ self.old.measure }
-        ensures colours { self.new.table.colours ≡ self.old.table.colours }
-        ensures accepted { OnOk result (Starting (N.Readable.meaning self.new.network).nodes (class_in self.new.table) (role_in self.new.table) × (self.new.table.splits ≡ 0)) }
-        ensures refused { OnErr result (self.new.table ≡ self.old.table) }
+        ensures answer { result ≡ put_answer (state_of self.old).network i j b }
+        ensures edited { let s = state_of self.old in
+            Edited result (put_after s.network i j b) s.colours s (state_of self.new) }
+        ensures measure { (parts_of self.new).1 ≡ (parts_of self.old).1 }
     {
         self.network.put(i, j, b)?;
         self.table.restart();
         Ok(())
     }
 
-    #[tactic(auto, using(crate::proofs::Keeping::between_started, crate::proofs::Keeping::counted_start))]
+    #[tactic(auto, using(crate::proofs::Keeping::sound_begun, crate::proofs::Keeping::coloured))]
     pub fn colour(&mut self, i: usize, c: u8) -> Result<(), Fault>
-        ensures answer { result ≡ colour_answer (N.Readable.meaning self.old.network).nodes i }
-        ensures network { self.new.network ≡ self.old.network }
-        ensures measure { self.new.measure ≡ self.old.measure }
-        ensures colours { self.new.table.colours ≡ colours_after (N.Readable.meaning self.old.network).nodes self.old.table.colours i c }
-        ensures accepted { OnOk result (Starting (N.Readable.meaning self.new.network).nodes (class_in self.new.table) (role_in self.new.table) × (self.new.table.splits ≡ 0)) }
-        ensures refused { OnErr result (self.new.table ≡ self.old.table) }
+        ensures answer { result ≡ colour_answer (state_of self.old).network.nodes i }
+        ensures edited { let s = state_of self.old in
+            Edited result s.network (colours_after s.network.nodes s.colours i c) s (state_of self.new) }
+        ensures parts { parts_of self.new ≡ parts_of self.old }
     {
         if i >= self.table.nodes() {
             return Err(Fault::Node);
@@ -81,7 +72,7 @@ impl<N: Editable, M: Measure> Open<N, M> {
 
     // Ends the session.
     pub fn into_parts(self) -> (N, M)
-        ensures { result ≡ (self.network, self.measure) }
+        ensures { result ≡ parts_of self }
     {
         (self.network, self.measure)
     }

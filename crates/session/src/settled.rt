@@ -1,9 +1,12 @@
 // A settled session: its table is the coarsest regular one within the starting classes.
-ghost use Rattle.std.specs.Prelude.{◌≡◌, ◌+◌, ◌<◌, length, IfOk};
+ghost use Rattle.std.specs.Prelude.{◌≡◌, ◌+◌, ◌<◌, IfOk};
 ghost use Rattle.equivalence.specs.Regular.{Regular};
-ghost use Rattle.equivalence.specs.Coarsest.{Coarsest, roles};
-ghost use Rattle.session.specs.Tables.{class_in, role_in};
-ghost use Rattle.session.specs.Tellings.{RoleTold, role_answer};
+ghost use Rattle.equivalence.specs.Coarsest.{Coarsest};
+ghost use Rattle.session.specs.OpenSessions.{state_of, parts_of};
+ghost use Rattle.session.specs.Roles.{Described};
+ghost use Rattle.session.specs.Sessions.{Ended};
+ghost use Rattle.session.specs.States.{IsSound, class_count, role, role_count};
+ghost use Rattle.session.specs.Tellings.{record_answer, role_answer};
 
 use super::faults::Fault;
 use super::open::Open;
@@ -19,17 +22,16 @@ mod asking;
 #[derive(Drop)]
 pub struct Settled<N: Editable, M: Measure> {
     session: Open<N, M>,
-    ghost regular: { Regular M.Measure.ops (N.Readable.meaning session.network) (role_in session.table) },
+    ghost regular: { Regular M.Measure.ops (state_of session).network (role (state_of session)) },
 }
 
 impl<N: Editable, M: Measure> Open<N, M> {
+    ghost use Rattle.session.specs.SettledSessions.{settled_state, settled_parts};
+
     // Splits roles until the table is regular: at most n - 1 splits, and one step more.
     pub fn settle(mut self) -> Settled<N, M>
-        ensures network { result.session.network ≡ self.network }
-        ensures measure { result.session.measure ≡ self.measure }
-        ensures colours { result.session.table.colours ≡ self.table.colours }
-        ensures coarsest { Coarsest M.Measure.ops (N.Readable.meaning self.network) (class_in self.table) (role_in result.session.table) }
-        ensures splits { result.session.table.splits + roles (class_in self.table) (N.Readable.meaning self.network).nodes ≡ roles (role_in result.session.table) (N.Readable.meaning self.network).nodes }
+        ensures ended { Ended M.Measure.ops (state_of self) (settled_state result) }
+        ensures parts { settled_parts result ≡ parts_of self }
     {
         while let Step::Split { .. } = self.step() {}
         Settled { session: self }
@@ -37,54 +39,61 @@ impl<N: Editable, M: Measure> Open<N, M> {
 }
 
 impl<N: Editable, M: Measure> Settled<N, M> {
+    ghost use Rattle.session.specs.SettledSessions.{settled_state, settled_parts};
+
     // Table and count are kept.
     pub fn reopen(self) -> Open<N, M>
-        ensures { result ≡ self.session }
+        ensures state { state_of result ≡ settled_state self }
+        ensures parts { parts_of result ≡ settled_parts self }
     {
         self.session
     }
 
     // How many roles there are.
     pub fn roles(&self) -> usize
-        ensures { result ≡ roles (role_in self.now.session.table) (N.Readable.meaning self.now.session.network).nodes }
+        ensures { result ≡ role_count (settled_state self.now) }
     {
         self.session.roles()
     }
 
     // How many roles were split since the table was at the starting classes.
     pub fn splits(&self) -> usize
-        ensures count { result ≡ self.now.session.table.splits }
-        ensures classes { result + roles (class_in self.now.session.table) (N.Readable.meaning self.now.session.network).nodes ≡ roles (role_in self.now.session.table) (N.Readable.meaning self.now.session.network).nodes }
+        ensures count { result ≡ (settled_state self.now).splits }
+        ensures classes { let s = settled_state self.now in
+            result + class_count s ≡ role_count s }
     {
         self.session.splits()
     }
 
     // The role of node x.
     pub fn role_of(&self, x: usize) -> Result<usize, Fault>
-        ensures answer { result ≡ role_answer (N.Readable.meaning self.now.session.network).nodes (role_in self.now.session.table) x }
-        ensures below { IfOk result (λ r. r < roles (role_in self.now.session.table) (N.Readable.meaning self.now.session.network).nodes) }
+        ensures answer { result ≡ role_answer (settled_state self.now) x }
+        ensures below { IfOk result (λ r. r < role_count (settled_state self.now)) }
     {
         self.session.role_of(x)
     }
 
     // The head and the size of role r.
     pub fn role(&self, r: usize) -> Result<Role, Fault>
-        ensures { RoleTold (N.Readable.meaning self.now.session.network).nodes (role_in self.now.session.table) r result }
+        ensures answer { result ≡ record_answer (settled_state self.now) r }
+        ensures described { let s = settled_state self.now in
+            IfOk result (Described s.network.nodes (role s) r) }
     {
         self.session.role(r)
     }
 
     // The role of each node, in order: the coarsest regular table.
     pub fn table(&self) -> &[u8]
-        ensures roles { result.now ≡ self.now.session.table.role_of.items }
-        ensures nodes { length result.now ≡ (N.Readable.meaning self.now.session.network).nodes }
-        ensures coarsest { Coarsest M.Measure.ops (N.Readable.meaning self.now.session.network) (class_in self.now.session.table) (role_in self.now.session.table) }
+        ensures table { result.now ≡ (settled_state self.now).table }
+        ensures sound { IsSound M.Measure.ops (settled_state self.now) }
+        ensures coarsest { let s = settled_state self.now in
+            Coarsest M.Measure.ops s.network s.colours (role s) }
     {
         self.session.table()
     }
 
     pub fn network(&self) -> &N
-        ensures { result.now ≡ self.now.session.network }
+        ensures { result.now ≡ (settled_parts self.now).0 }
     {
         self.session.network()
     }

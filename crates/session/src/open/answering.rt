@@ -6,7 +6,7 @@ ghost use Rattle.question.specs.Truth.{claimed, rows};
 ghost use Rattle.question.specs.Areas.{area_after, row_bytes};
 ghost use Rattle.question.specs.declared.line.Claim.{Claim};
 ghost use Rattle.session.specs.Marks.{marked, Written};
-ghost use Rattle.session.specs.Tables.{class_in};
+ghost use Rattle.session.specs.OpenSessions.{state_of};
 
 use super::super::places::Places;
 use super::Open;
@@ -30,9 +30,10 @@ impl<N: Editable, M: Measure> Open<N, M> {
     // The nodes that line k is true of, in order.
     #[tactic(auto, using(crate::proofs::Ranges::filter_in, crate::proofs::Ranges::filter_out))]
     fn true_nodes<P: Places>(&self, places: &P, rows: &[u8], k: usize) -> ArrayVec<u8, 128>
-        requires fits { P.nodes places.now ≡ (N.Readable.meaning self.now.network).nodes }
+        requires fits { P.nodes places.now ≡ (state_of self.now).network.nodes }
         requires written { k * P.width places.now + P.width places.now ≤ length rows.now }
-        ensures { result.items ≡ filter (λ y. marked (P.width places.now) rows.now k ((P.places places.now).place y)) (range_with_len 0 (N.Readable.meaning self.now.network).nodes) }
+        ensures { let true_at = λ y. marked (P.width places.now) rows.now k ((P.places places.now).place y) in
+            result.items ≡ filter true_at (range_with_len 0 (state_of self.now).network.nodes) }
     {
         let width = places.width();
         let mut nodes = ArrayVec::new();
@@ -55,8 +56,13 @@ impl<N: Editable, M: Measure> Open<N, M> {
     ) -> bool
         requires place { p < P.width places.now }
         requires written { Written (P.width places.now) (length rows.now) claim }
-        requires listed { (k t : ℕ) → claim ≡ Claim.Tied k t → toward.now ≡ filter (λ y. marked (P.width places.now) rows.now k ((P.places places.now).place y)) (range_with_len 0 (N.Readable.meaning self.now.network).nodes) }
-        ensures { result ≡ claimed M.Measure.ops (N.Readable.meaning self.now.network) (class_in self.now.table) (P.places places.now) (marked (P.width places.now) rows.now) claim p }
+        requires listed { let told = marked (P.width places.now) rows.now in
+            (k t : ℕ) → claim ≡ Claim.Tied k t
+            → toward.now ≡ filter (λ y. told k ((P.places places.now).place y))
+            (range_with_len 0 (state_of self.now).network.nodes) }
+        ensures { let s = state_of self.now in
+            let told = marked (P.width places.now) rows.now in
+            result ≡ claimed M.Measure.ops s.network s.colours (P.places places.now) told claim p }
     {
         let width = places.width();
         match claim {
@@ -73,10 +79,13 @@ impl<N: Editable, M: Measure> Open<N, M> {
     // Writes the row of a claim: 1 where it is true, by the rows before it.
     #[tactic(auto, using(crate::proofs::Rows::row_filled))]
     fn write_row<P: Places>(&self, places: &P, claim: Claim, rows: &[u8], row: &mut [u8])
-        requires fits { P.nodes places.now ≡ (N.Readable.meaning self.now.network).nodes }
+        requires fits { P.nodes places.now ≡ (state_of self.now).network.nodes }
         requires width { length row.old ≡ P.width places.now }
         requires written { Written (P.width places.now) (length rows.now) claim }
-        ensures { row.new ≡ row_bytes (P.width places.now) (claimed M.Measure.ops (N.Readable.meaning self.now.network) (class_in self.now.table) (P.places places.now) (marked (P.width places.now) rows.now) claim) }
+        ensures { let s = state_of self.now in
+            let told = marked (P.width places.now) rows.now in
+            row.new ≡ row_bytes (P.width places.now)
+            (claimed M.Measure.ops s.network s.colours (P.places places.now) told claim) }
     {
         let toward = match claim {
             Claim::Tied(k, _) => self.true_nodes(places, rows, k),
@@ -89,11 +98,14 @@ impl<N: Editable, M: Measure> Open<N, M> {
 
     // Writes the rows of a question that passes its check, one after another.
     fn write_rows<P: Places>(&self, places: &P, question: &[Line], area: &mut [u8])
-        requires fits { P.nodes places.now ≡ (N.Readable.meaning self.now.network).nodes }
+        requires fits { P.nodes places.now ≡ (state_of self.now).network.nodes }
         requires lines { lines_check 0 question.now ≡ Ok tt }
         requires few { length question.now ≤ 32 }
         requires room { length question.now * P.width places.now ≤ length area.old }
-        ensures { area.new ≡ flat_map (row_bytes (P.width places.now)) (rows M.Measure.ops (N.Readable.meaning self.now.network) (class_in self.now.table) (P.places places.now) question.now) ++ drop (length question.now * P.width places.now) area.old }
+        ensures { let s = state_of self.now in
+            let told = rows M.Measure.ops s.network s.colours (P.places places.now) question.now in
+            area.new ≡ flat_map (row_bytes (P.width places.now)) told
+            ++ drop (length question.now * P.width places.now) area.old }
     {
         let width = places.width();
         for (k, line) in question.iter().enumerate() {
@@ -111,9 +123,11 @@ impl<N: Editable, M: Measure> Open<N, M> {
         question: &[Line],
         area: &mut [u8],
     ) -> Result<usize, Fault>
-        requires { P.nodes places.now ≡ (N.Readable.meaning self.now.network).nodes }
+        requires { P.nodes places.now ≡ (state_of self.now).network.nodes }
         ensures start { result ≡ answer_start question.now (P.width places.now) (length area.old) }
-        ensures area { area.new ≡ area_after result (P.width places.now) (rows M.Measure.ops (N.Readable.meaning self.now.network) (class_in self.now.table) (P.places places.now) question.now) area.old }
+        ensures area { let s = state_of self.now in
+            let told = rows M.Measure.ops s.network s.colours (P.places places.now) question.now in
+            area.new ≡ area_after result (P.width places.now) told area.old }
     {
         let start = check(question, places.width(), area.len())?;
         self.write_rows(places, question, area);

@@ -4,11 +4,11 @@ ghost use Rattle.std.specs.Prelude.{◌≡◌, ◌↔◌, ℕ, true, false, ◌<
 ghost use Rattle.arrayvec.specs.ArrayVec.{array_vec_len};
 ghost use Rattle.equivalence.specs.Regular.{Balanced, Regular};
 ghost use Rattle.equivalence.specs.Splitting.{Even, members};
-ghost use Rattle.session.specs.Roles.{head_at};
 ghost use Rattle.session.specs.Leaving.{flag, apart};
+ghost use Rattle.session.specs.OpenSessions.{state_of, parts_of};
+ghost use Rattle.session.specs.States.{role};
 ghost use Rattle.session.specs.Steps.{InTwo, Stepped};
 ghost use Rattle.session.specs.declared.step.Step.{Step};
-ghost use Rattle.session.specs.Tables.{role_in};
 
 use super::super::step::Step;
 use super::Open;
@@ -20,8 +20,10 @@ impl<N: Editable, M: Measure> Open<N, M> {
     // The nodes of role r whose total toward role c is not that of the head of r.
     fn leaving(&self, r: usize, c: usize) -> [bool; 128]
         requires { r < array_vec_len self.now.table.roles }
-        ensures { let m = N.Readable.meaning self.now.network in
-            (x : ℕ) → x < m.nodes → flag result x ≡ apart M.Measure.ops m (role_in self.now.table) r (head_at self.now.table.roles.items r) (members (role_in self.now.table) c) x }
+        ensures { let s = state_of self.now in
+            let toward = members (role s) c in
+            (x : ℕ) → x < s.network.nodes
+            → flag result x ≡ apart M.Measure.ops s.network (role s) r (s.head r) toward x }
     {
         let nodes = self.table.members(c);
         let head = self.table.role(r).head;
@@ -41,11 +43,12 @@ impl<N: Editable, M: Measure> Open<N, M> {
     fn split_role(&mut self, r: usize, c: usize) -> bool
         requires part { r < array_vec_len self.old.table.roles }
         requires toward { c < array_vec_len self.old.table.roles }
-        ensures even { result ≡ false → Even M.Measure.ops (N.Readable.meaning self.old.network) (role_in self.old.table) r (members (role_in self.old.table) c) }
+        ensures even { let s = state_of self.old in
+            result ≡ false → Even M.Measure.ops s.network (role s) r (members (role s) c) }
         ensures kept { result ≡ false → self.new ≡ self.old }
-        ensures split { result ≡ true → InTwo M.Measure.ops (N.Readable.meaning self.old.network) self.old.table self.new.table r c (array_vec_len self.old.table.roles) }
-        ensures network { self.new.network ≡ self.old.network }
-        ensures measure { self.new.measure ≡ self.old.measure }
+        ensures split { let fresh = array_vec_len self.old.table.roles in
+            result ≡ true → InTwo M.Measure.ops (state_of self.old) (state_of self.new) r c fresh }
+        ensures parts { parts_of self.new ≡ parts_of self.old }
     {
         let leaving = self.leaving(r, c);
         match self.table.lowest(&leaving) {
@@ -60,11 +63,12 @@ impl<N: Editable, M: Measure> Open<N, M> {
     // Splits a role by totals toward role c, where one has nodes that differ in it. Gives the role that was split.
     fn split_toward(&mut self, c: usize) -> Option<usize>
         requires { c < array_vec_len self.old.table.roles }
-        ensures search { MatchOption result
-            (Balanced M.Measure.ops (N.Readable.meaning self.old.network) (role_in self.old.table) (members (role_in self.old.table) c) × (self.new ≡ self.old))
-            (λ part. InTwo M.Measure.ops (N.Readable.meaning self.old.network) self.old.table self.new.table part c (array_vec_len self.old.table.roles)) }
-        ensures network { self.new.network ≡ self.old.network }
-        ensures measure { self.new.measure ≡ self.old.measure }
+        ensures search { let s = state_of self.old in
+            let fresh = array_vec_len self.old.table.roles in
+            MatchOption result
+            (Balanced M.Measure.ops s.network (role s) (members (role s) c) × (self.new ≡ self.old))
+            (λ part. InTwo M.Measure.ops s (state_of self.new) part c fresh) }
+        ensures parts { parts_of self.new ≡ parts_of self.old }
     {
         for r in 0..self.table.count() {
             // A single node has no other to differ from.
@@ -77,11 +81,10 @@ impl<N: Editable, M: Measure> Open<N, M> {
 
     // Splits one role in two, where the table is not regular.
     pub fn step(&mut self) -> Step
-        ensures stable { (result ≡ Step.Stable) ↔ Regular M.Measure.ops (N.Readable.meaning self.old.network) (role_in self.old.table) }
-        ensures stepped { Stepped M.Measure.ops (N.Readable.meaning self.old.network) self.old.table self.new.table result }
-        ensures network { self.new.network ≡ self.old.network }
-        ensures measure { self.new.measure ≡ self.old.measure }
-        ensures colours { self.new.table.colours ≡ self.old.table.colours }
+        ensures stable { let s = state_of self.old in
+            (result ≡ Step.Stable) ↔ Regular M.Measure.ops s.network (role s) }
+        ensures stepped { Stepped M.Measure.ops (state_of self.old) (state_of self.new) result }
+        ensures parts { parts_of self.new ≡ parts_of self.old }
     {
         let fresh = self.table.count();
         for toward in 0..fresh {

@@ -1,8 +1,9 @@
 // What a session tells, open or settled.
-ghost use Rattle.std.specs.Prelude.{◌≡◌, ◌+◌, ◌<◌, length, IfOk};
-ghost use Rattle.equivalence.specs.Coarsest.{Between, roles};
-ghost use Rattle.session.specs.Tables.{class_in, role_in};
-ghost use Rattle.session.specs.Tellings.{RoleTold, role_answer};
+ghost use Rattle.std.specs.Prelude.{◌≡◌, ◌+◌, ◌<◌, IfOk};
+ghost use Rattle.session.specs.OpenSessions.{state_of, parts_of};
+ghost use Rattle.session.specs.Roles.{Described};
+ghost use Rattle.session.specs.States.{IsSound, class_count, role, role_count};
+ghost use Rattle.session.specs.Tellings.{record_answer, role_answer};
 
 use super::super::faults::Fault;
 use super::super::role::Role;
@@ -14,25 +15,23 @@ impl<N: Editable, M: Measure> Open<N, M> {
     // How many roles there are.
     #[tactic(auto, using(crate::proofs::Keeping::numbered))]
     pub fn roles(&self) -> usize
-        ensures { result ≡ roles (role_in self.now.table) (N.Readable.meaning self.now.network).nodes }
+        ensures { result ≡ role_count (state_of self.now) }
     {
         self.table.count()
     }
 
     // How many roles were split since the table was at the starting classes.
-    #[tactic(auto, using(crate::proofs::Keeping::numbered))]
     pub fn splits(&self) -> usize
-        ensures count { result ≡ self.now.table.splits }
-        ensures classes { result + roles (class_in self.now.table) (N.Readable.meaning self.now.network).nodes ≡ roles (role_in self.now.table) (N.Readable.meaning self.now.network).nodes }
+        ensures count { result ≡ (state_of self.now).splits }
+        ensures classes { result + class_count (state_of self.now) ≡ role_count (state_of self.now) }
     {
         self.table.splits()
     }
 
     // The role of node x.
-    #[tactic(auto, using(crate::proofs::Keeping::role_lt))]
     pub fn role_of(&self, x: usize) -> Result<usize, Fault>
-        ensures answer { result ≡ role_answer (N.Readable.meaning self.now.network).nodes (role_in self.now.table) x }
-        ensures below { IfOk result (λ r. r < roles (role_in self.now.table) (N.Readable.meaning self.now.network).nodes) }
+        ensures answer { result ≡ role_answer (state_of self.now) x }
+        ensures below { IfOk result (λ r. r < role_count (state_of self.now)) }
     {
         if x >= self.table.nodes() {
             return Err(Fault::Node);
@@ -43,7 +42,9 @@ impl<N: Editable, M: Measure> Open<N, M> {
     // The head and the size of role r.
     #[tactic(auto, using(crate::proofs::Keeping::numbered))]
     pub fn role(&self, r: usize) -> Result<Role, Fault>
-        ensures { RoleTold (N.Readable.meaning self.now.network).nodes (role_in self.now.table) r result }
+        ensures answer { result ≡ record_answer (state_of self.now) r }
+        ensures described { let s = state_of self.now in
+            IfOk result (Described s.network.nodes (role s) r) }
     {
         if r >= self.table.count() {
             return Err(Fault::Role);
@@ -53,15 +54,14 @@ impl<N: Editable, M: Measure> Open<N, M> {
 
     // The role of each node, in order. Within the starting classes, and coarser than every regular table within them.
     pub fn table(&self) -> &[u8]
-        ensures roles { result.now ≡ self.now.table.role_of.items }
-        ensures nodes { length result.now ≡ (N.Readable.meaning self.now.network).nodes }
-        ensures between { Between M.Measure.ops (N.Readable.meaning self.now.network) (class_in self.now.table) (role_in self.now.table) }
+        ensures table { result.now ≡ (state_of self.now).table }
+        ensures sound { IsSound M.Measure.ops (state_of self.now) }
     {
         self.table.roles_of()
     }
 
     pub fn network(&self) -> &N
-        ensures { result.now ≡ self.now.network }
+        ensures { result.now ≡ (parts_of self.now).0 }
     {
         &self.network
     }

@@ -1,10 +1,12 @@
-use Rattle.std.proofs.Common.{◌≡◌, ◌-◌, length}
+use Rattle.std.proofs.Common.{◌≡◌, ◌-◌}
+use Rattle.session.specs.OpenSessions.{state_of, parts_of}
+use Rattle.session.specs.States.{role_count}
 use Rattle.session.proofs.open.Open.settle.Given as goal
 
 -- ties, measure and colours are as they were
 abbrev pub invariant-loop : goal.invariant-loop
-invariant-loop g l = (l.self.network ≡ l.fn.self.network) × (l.self.measure ≡ l.fn.self.measure) × (l.self.table.colours ≡ l.fn.self.table.colours)
+invariant-loop g l = (parts_of l.self ≡ parts_of l.fn.self) × ((state_of l.self).colours ≡ (state_of l.fn.self).colours)
 
 -- each split adds a role, and there are no more roles than nodes
 abbrev pub decreases-loop : goal.decreases-loop
-decreases-loop g l = length l.self.table.role_of.items - length l.self.table.roles.items
+decreases-loop g l = (state_of l.self).network.nodes - role_count (state_of l.self)

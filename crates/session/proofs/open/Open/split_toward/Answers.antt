@@ -18,10 +18,10 @@ loop-r-preserved g c =
     let next = below_more (λ k. Even g.M.Measure.ops m role k (members role c.args.c)) r c.loop-r.invariant.1 in
     elim c.else-role-gt1.branch [
       | else-role-gt1-via-then-role-gt1+else-split_role w ↦ (w.self-is ∙ w.split_role.ensures.kept w.if-split_role.false ∙ same, next (rw same at (w.split_role.ensures.even w.if-split_role.false)))
-      | else-role-gt1-via-else-role-gt1 w ↦ (w.self-is ∙ same, next (even_single g.M.Measure.ops g.met.M.Measure.lawful m s.table s.fits r c.args.c known (omega (arith, w.if-role-gt1.false, ap (λ (v : Role). v.size) c.role.ensures, ap (λ v. (record_at v.table.roles.items r).size) same))))
+      | else-role-gt1-via-else-role-gt1 w ↦ (w.self-is ∙ same, next (even_single g.M.Measure.ops g.met.M.Measure.lawful m s.table s.sound.entries r c.args.c known (omega (arith, w.if-role-gt1.false, ap (λ (v : Role). v.size) c.role.ensures, ap (λ v. (record_at v.table.roles.items r).size) same))))
     ]
 
 pub returns-clause-search : goal.returns-clause-search
 returns-clause-search g c =
     let s = c.args.self.now in
-    (λ x y hx hy e. c.loop-r.invariant.1 (role_in s.table x) (omega (arith, s.fits, s.table.kept.ranged x (omega (arith, s.fits)), c.count-r-end.ensures, c.loop-r-test.false)) x y hx hy refl (sym e), c.loop-r.invariant.0)
+    (λ x y hx hy e. c.loop-r.invariant.1 (role_in s.table x) (omega (arith, s.sound.entries, s.table.kept.ranged x (omega (arith, s.sound.entries)), c.count-r-end.ensures, c.loop-r-test.false)) x y hx hy refl (sym e), c.loop-r.invariant.0)

@@ -1,8 +1,10 @@
 use Rattle.equivalence.proofs.Refinement.{coarsest_settled}
-use Rattle.session.specs.Tables.{class_in, role_in}
+use Rattle.session.specs.SettledSessions.{settled_state}
+use Rattle.session.specs.States.{role}
 use Rattle.session.proofs.settled.Settled.table.Goals as goal
 
 pub returns-clause-coarsest : goal.returns-clause-coarsest
 returns-clause-coarsest g c =
     let s = c.args.self.now in
-    coarsest_settled g.M.Measure.ops (g.N.Readable.meaning s.session.network) (class_in s.session.table) (role_in s.session.table) s.session.between s.regular
+    let state = settled_state s in
+    coarsest_settled g.M.Measure.ops state.network state.colours (role state) s.session.sound.between s.regular
