@@ -10,14 +10,14 @@
 --   untied_slots      a network without ties, of which so many pairs may be tied at a time
 --   WeighedBy         one of the three measures
 --   Irregular         a table, and three nodes that show why it is not regular
---   Shows             they show it
+--   Shows             they show it, and no other three do, so they are the vet's answer
 --   KnownNetwork      a drawing, a measure, and what is known of them
 --   KnownUnder        it holds of a book, under the operations of a measure
 --   KnownBy           the same, of a measure by its name
 --   Known             each edit of the drawing answers so, and what is known holds
 --   known_networks    the networks, once for each measure under which they are known
 --   AllKnown          each of them is known
-use Rattle.std.specs.Prelude.{◌≡◌, ℕ, ◌+◌, ◌<◌, true, List, [], ◌∷◌, length, map, Result, Ok, Err, All}
+use Rattle.std.specs.Prelude.{◌≡◌, ℕ, ◌+◌, ◌<◌, true, List, [], ◌∷◌, length, map, Option, Some, Result, Ok, Err, All}
 use Rattle.network.specs.Meaning.{Meaning}
 use Rattle.network.specs.Put.{put_answer}
 use Rattle.network.specs.Matrices.{untied}
@@ -28,8 +28,9 @@ use Rattle.measure.specs.Kinds.{kinds}
 use Rattle.measure.specs.Bundles.{bundles}
 use Rattle.measure.specs.Tally.{tally}
 use Rattle.equivalence.specs.Regular.{Heads, Unequal}
-use Rattle.equivalence.specs.Vetted.{table_of}
+use Rattle.equivalence.specs.Vetted.{table_of, Vetted}
 use Rattle.equivalence.specs.Coarsest.{Coarsest, roles}
+use Rattle.equivalence.specs.declared.faults.Fault.{Fault as EquivalenceFault}
 use Rattle.session.specs.Sessions.{colour_answer}
 use Rattle.session.specs.declared.faults.Fault.{Fault as SessionFault}
 use Rattle.driving.specs.Book.{Book, opened, after_put, after_colour}
@@ -73,8 +74,12 @@ pub record Irregular : Type 0 where
   pub y : ℕ
   pub z : ℕ
 
-abbrev pub Shows : {V : Type 0} → Operations V → Meaning → Irregular → Type 0
-Shows o m irregular = (length irregular.table ≡ m.nodes) × Unequal o m (table_of irregular.table) irregular.x irregular.y irregular.z
+pub record Shows {V : Type 0} (o : Operations V) (m : Meaning) (irregular : Irregular) : Type 0 where
+  pub one_each : length irregular.table ≡ m.nodes
+  pub shown : Unequal o m (table_of irregular.table) irregular.x irregular.y irregular.z
+  pub only : (x y z : ℕ) → Unequal o m (table_of irregular.table) x y z → (x ≡ irregular.x) × (y ≡ irregular.y) × (z ≡ irregular.z)
+  -- so the vet answers with these three
+  pub answer : (r : Result (Option (ℕ × ℕ × ℕ)) EquivalenceFault) → Vetted o m irregular.table r → r ≡ Ok (Some (irregular.x, irregular.y, irregular.z))
 
 pub record KnownNetwork : Type 0 where
   pub drawing : Drawing
