@@ -6,7 +6,7 @@ use Rattle.network.specs.Meaning.{Meaning}
 use Rattle.measure.specs.Measures.{Operations, Laws}
 use Rattle.equivalence.specs.Regular.{Table, Regular}
 use Rattle.question.specs.Checks.{answer_start}
-use Rattle.question.specs.Truth.{Places, row, rows, answer, each_node, each_role}
+use Rattle.question.specs.Truth.{Places, row, rows, each_node, each_role}
 use Rattle.question.specs.Areas.{row_bytes, area_after, NodesAnswered}
 use Rattle.question.specs.declared.line.Line.{Line}
 use Rattle.question.specs.declared.faults.Fault.{Fault}
@@ -45,8 +45,8 @@ module _ {V : Type 0} (o : Operations V) (m : Meaning) (colours : Table) (lines 
       let (some, at_last) = accepted lines width (length area) start passes in
       let byte : (k x : ℕ) → k < length lines → x < m.nodes → slice_index (area_after (answer_start lines width (length area)) width (told at) area) (k * width + at.place x) ≡ cond (row (told each_node) k x) 1 0 =
       λ k x line node. rw passes
-          (row_byte width (told at) _ k (at.place x) (omega (arith, line, rowing.length_rows o m colours at lines)) (ranged x node)
-          ∙ ap {B = ℕ} (λ b. cond b 1 0) (agree k x node))
+      (row_byte width (told at) _ k (at.place x) (omega (arith, line, rowing.length_rows o m colours at lines)) (ranged x node)
+      ∙ ap {B = ℕ} (λ b. cond b 1 0) (agree k x node))
       in
       let last_start : start ≡ (length lines - 1) * width = omega (arith, some, at_last, suc-mul (length lines - 1) width, ap (λ k. k * width) (one_less (length lines) some)) in
       record {

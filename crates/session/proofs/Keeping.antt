@@ -1,19 +1,19 @@
 -- What the table of an open session keeps. Assumes nothing.
-use Rattle.std.proofs.Common.{◌≡◌, ℕ, ◌+◌, ◌<◌, ◌≤◌, refl, cond, length, set, List, replicate, inl, inr, ap, ◌∙◌, arith}
-use Rattle.std.specs.Prelude.{◌&&◌, ◌==◌, nat_lt}
+use Rattle.std.proofs.Common.{◌≡◌, ℕ, ◌+◌, ◌<◌, ◌≤◌, refl, length, set, List, replicate, inl, inr, ap, arith}
 use Rattle.std.proofs.lemmas.Bool.{cases_lt}
 use Rattle.std.proofs.lemmas.Bool.Decides.{nat_tests}
 use Rattle.std.proofs.lemmas.Grind.{common_steps}
 use Rattle.std.proofs.lemmas.List.{get_or-replicate, get_or_past}
-use Rattle.network.specs.Meaning.{Meaning}
+use Rattle.network.specs.Meaning.{Meaning, count_below}
 use Rattle.measure.specs.Measures.{Operations, Laws}
 use Rattle.equivalence.specs.Vetted.{table_of}
 use Rattle.equivalence.specs.Regular.{Table}
 use Rattle.equivalence.specs.Coarsest.{Between, roles}
+use Rattle.equivalence.specs.Splitting.{members}
 use Rattle.equivalence.proofs.Refinement.{roles_le, between_start, between_split}
-use Rattle.session.specs.Roles.{record_at}
+use Rattle.session.specs.Roles.{head_at, record_at}
 use Rattle.session.specs.Sessions.{Starting, colours_after}
-use Rattle.session.specs.States.{IsSound, state_with, role, role_count, class_count}
+use Rattle.session.specs.States.{IsSound, record_of, state_with}
 use Rattle.session.specs.Steps.{InTwo}
 use Rattle.session.specs.Tables.{class_in, role_in}
 use Rattle.session.specs.declared.table.Table.{Table as RoleTable}
@@ -42,6 +42,12 @@ module _ (t : RoleTable) where
           between = between;
           counted = counted;
         }
+
+    -- the record that is kept of a role
+    pub recorded : (r : ℕ) → r < length t.roles.items → record_at t.roles.items r ≡ record_of (state_with m t) r
+    recorded r l =
+        let size : (record_at t.roles.items r).size ≡ count_below (members (role_in t) r) m.nodes = rw fits at (t.kept.described r l).size in
+        ap (λ (k : ℕ). record { head = head_at t.roles.items r; size = k }) size
 
     -- at the starting classes, no role was split
     pub sound_begun : Starting m.nodes (class_in t) (role_in t) → t.splits ≡ 0 → IsSound o (state_with m t)

@@ -17,10 +17,10 @@ use Rattle.session.specs.declared.faults.Fault.{Fault}
 abbrev pub Starting : ℕ → Table → Table → Type 0
 Starting n classes role = Refines n role classes × Refines n classes role
 
-pub record Begun (m : Meaning) (colours : Table) (s : State) : Type 0 where
+pub record Begun (m : Meaning) (classes : Table) (s : State) : Type 0 where
   pub network : s.network ≡ m
-  pub colours : s.colours ≡ colours
-  pub start : Starting m.nodes colours (role s)
+  pub colours : s.colours ≡ classes
+  pub start : Starting m.nodes classes (role s)
   pub splits : s.splits ≡ 0
 
 abbrev pub colour_answer : ℕ → ℕ → Result (Unit {0}) Fault
@@ -29,11 +29,11 @@ colour_answer n i = cond (nat_lt i n) (Ok tt) (Err Fault.Node)
 abbrev pub colours_after : ℕ → Table → ℕ → ℕ → Table
 colours_after n colours i c x = cond (nat_lt i n && x == i) c (colours x)
 
--- m and colours: what the put or the colour makes of ties and colours
-pub record Edited {F : Type 0} (answer : Result (Unit {0}) F) (m : Meaning) (colours : Table) (old new : State) : Type 0 where
+-- m and classes: what the put or the colour makes of ties and colours
+pub record Edited {F : Type 0} (answer : Result (Unit {0}) F) (m : Meaning) (classes : Table) (old new : State) : Type 0 where
   pub network : new.network ≡ m
-  pub colours : new.colours ≡ colours
-  pub accepted : OnOk answer (Begun m colours new)
+  pub colours : new.colours ≡ classes
+  pub accepted : OnOk answer (Begun m classes new)
   pub refused : OnErr answer (new ≡ old)
 
 pub record Ended {V : Type 0} (o : Operations V) (old new : State) : Type 0 where

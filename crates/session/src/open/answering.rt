@@ -32,8 +32,9 @@ impl<N: Editable, M: Measure> Open<N, M> {
     fn true_nodes<P: Places>(&self, places: &P, rows: &[u8], k: usize) -> ArrayVec<u8, 128>
         requires fits { P.nodes places.now ≡ (state_of self.now).network.nodes }
         requires written { k * P.width places.now + P.width places.now ≤ length rows.now }
-        ensures { let true_at = λ y. marked (P.width places.now) rows.now k ((P.places places.now).place y) in
-            result.items ≡ filter true_at (range_with_len 0 (state_of self.now).network.nodes) }
+        ensures { let told = marked (P.width places.now) rows.now in
+            result.items ≡ filter (λ y. told k ((P.places places.now).place y))
+            (range_with_len 0 (state_of self.now).network.nodes) }
     {
         let width = places.width();
         let mut nodes = ArrayVec::new();

@@ -40,7 +40,7 @@ impl<N: Editable, M: Measure> Open<N, M> {
     }
 
     // The head and the size of role r.
-    #[tactic(auto, using(crate::proofs::Keeping::numbered))]
+    #[tactic(auto, using(crate::proofs::Keeping::numbered, crate::proofs::Keeping::recorded))]
     pub fn role(&self, r: usize) -> Result<Role, Fault>
         ensures answer { result ≡ record_answer (state_of self.now) r }
         ensures described { let s = state_of self.now in

@@ -1,8 +1,8 @@
-use Rattle.std.proofs.Common.{◌∙◌, sym, refl, ap}
+use Rattle.std.proofs.Common.{◌∙◌, sym, subst, refl, ap}
 use Rattle.equivalence.specs.Regular.{Regular}
 use Rattle.equivalence.proofs.Refinement.{coarsest_settled}
 use Rattle.session.specs.OpenSessions.{state_of}
-use Rattle.session.specs.States.{role}
+use Rattle.session.specs.States.{State, role}
 use Rattle.session.proofs.open.Open.settle.Goals as goal
 
 pub returns-clause-ended : goal.returns-clause-ended
@@ -10,7 +10,7 @@ returns-clause-ended g c =
     let new = c.step.new.self in
     let s = state_of new in
     let stop = c.in_default.ensures in
-    let regular : Regular g.M.Measure.ops s.network (role s) = rw (sym stop.stepped) at (stop.stable.0 refl) in
+    let regular : Regular g.M.Measure.ops s.network (role s) = subst (λ (v : State). Regular g.M.Measure.ops v.network (role v)) (sym stop.stepped) (stop.stable.0 refl) in
     record {
       network = ap (λ p. g.N.Readable.meaning p.0) (c.step.ensures.parts ∙ c.loop.invariant.0);
       colours = ap (λ t. t.colours) stop.stepped ∙ c.loop.invariant.1;

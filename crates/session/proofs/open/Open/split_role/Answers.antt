@@ -1,11 +1,17 @@
-use Rattle.std.proofs.Common.{◌∙◌, length}
+use Rattle.std.proofs.Common.{◌∙◌, length, arith}
 use Rattle.session.specs.Leaving.{flag}
 use Rattle.session.specs.States.{state_with}
 use Rattle.session.specs.Steps.{InTwo}
-use Rattle.session.proofs.Keeping.{sound_split}
+use Rattle.session.proofs.Keeping.{numbered, sound_split}
 use Rattle.session.proofs.Splits.{two_leaving}
 use Rattle.session.proofs.open.Open.split_role.Given.{Over}
 use Rattle.session.proofs.open.Open.split_role.Goals as goal
+
+-- there are no more splits than nodes
+pub split-requires-clause-few : goal.split-requires-clause-few
+split-requires-clause-few g c =
+    let s = c.args.self.now in
+    omega (arith, s.sound.counted, numbered s.table (g.N.Readable.meaning s.network).nodes s.sound.entries, s.table.kept.packed, s.table.kept.few)
 
 two : (g : Over) (c : goal.After-split g) → (let m = g.N.Readable.meaning c.args.self.now.network in InTwo g.M.Measure.ops (state_with m c.args.self.now.table) (state_with m c.split.new.self) c.args.r c.args.c (length c.args.self.now.table.roles.items))
 two g c =
