@@ -1,46 +1,166 @@
--- What calls of a session promise, as turns of it. Assumes nothing.
-use Rattle.std.specs.Prelude.{◌&&◌, ◌==◌, nat_lt}
-use Rattle.std.proofs.lemmas.Grind.{common_steps}
-use Rattle.std.proofs.lemmas.Bool.Decides.{nat_tests}
-use Rattle.equivalence.specs.Vetted.{table_of}
-use Rattle.session.specs.Sessions.{colours_after}
-use Rattle.std.proofs.Common.{◌≡◌, ℕ, ◌≤◌, List, length, cond, arith, Result, Ok, Err, OnOk, OnErr, subst, ◌∙◌}
-use Rattle.network.specs.declared.interface.Readable as readable
-use Rattle.measure.specs.declared.interface.Measure as measure
-use Rattle.equivalence.proofs.Refinement.{coarsest_settled}
-use Rattle.session.specs.Tables.{class_in, role_in}
-use Rattle.session.specs.declared.settled.Settled.{Settled}
-use Rattle.session.specs.declared.table.Table.{Table as RoleTable}
-use Rattle.session.proofs.Keeping.{numbered}
+-- What a call makes of a session, by its turn. Assumes nothing.
+use Rattle.std.proofs.Common.{rules, ◌≡◌, ℕ, Bool, true, false, cond, List, Result, Ok, Err, MatchBool, refl, sym, ap, subst, inl, inr, ◌⊎◌}
 use Rattle.network.specs.Meaning.{Meaning}
+use Rattle.measure.specs.Measures.{Operations}
 use Rattle.equivalence.specs.Regular.{Table}
-use Rattle.driving.specs.Book.{Book}
-use Rattle.driving.specs.States.{book_in}
-use Rattle.driving.specs.Turns.{Begun, Edited, Ended}
-
-edited_as : {F : Type 0} (book : Book) (r : Result (Unit {0}) F) (old new : RoleTable) → OnOk r (Begun book new) → OnErr r (new ≡ old) → Edited book r old new
-edited_as book (Ok tt) old new accepted refused = accepted
-edited_as book (Err f) old new accepted refused = refused
+use Rattle.equivalence.specs.Coarsest.{Coarsest}
+use Rattle.equivalence.proofs.Refinement.{coarsest_settled}
+use Rattle.session.specs.Sessions.{Edited}
+use Rattle.session.specs.States.{State, IsSound, role}
+use Rattle.session.specs.Steps.{Stepped}
+use Rattle.session.specs.declared.step.Step as step
+use Rattle.session.specs.declared.step.Step.TheVariants.{Stable, Split}
+use Rattle.driving.specs.Book.{Book, book_in}
+use Rattle.driving.specs.Courses.{takes, settled_after, book_after}
+use Rattle.driving.specs.Laws.{is_edit, is_quiet}
+use Rattle.driving.specs.Turns.{Gives, Does, Turn}
+use Rattle.driving.specs.declared.call.Call.{Call}
+use Rattle.driving.specs.declared.call.Call.TheVariants.{Put, Colour, Step, Settle, Reopen, Look, Ask, Roles, Splits, RoleOf, Role}
+use Rattle.driving.specs.declared.call.Reply.{Reply}
 
 pub book_same : {m n : Meaning} {a b : Table} → m ≡ n → a ≡ b → ◌≡◌ {A = Book} (record { network = m; colours = a }) (record { network = n; colours = b })
 book_same e d = λ i. record { network = e i; colours = d i }
 
-coloured_at : (n : ℕ) (colours : List ℕ) (i c x : ℕ) → n ≤ length colours → table_of (colours_after n colours i c) x ≡ cond (nat_lt i n && x == i) c (table_of colours x)
-coloured_at n colours i c x long = grind (arith, nat_tests, common_steps)
+pub gives : {Altered : Type 0} {reply answer : Reply} {after left : List ℕ} → reply ≡ answer → after ≡ left → Altered → Gives answer left Altered reply after
+gives replied area state = record { replied = replied; area = area; state = state }
 
--- colours after a colour are those of the book
-pub coloured : (n : ℕ) (colours : List ℕ) (i c : ℕ) → n ≤ length colours → table_of (colours_after n colours i c) ≡ (λ x. cond (nat_lt i n && x == i) c (table_of colours x))
-coloured n colours i c long = λ p x. coloured_at n colours i c x long p
+-- the state after a put or a colour, by what it answers
+pub edited : {F : Type 0} (r answer : Result (Unit {0}) F) (m : Meaning) (classes : Table) (s t : State) → r ≡ answer → Edited r m classes s t → Edited answer m classes s t
+edited r answer m classes s t is did = subst (λ a. Edited a m classes s t) is did
 
--- the table after a put or a colour, by its own book
-pub edited : {F : Type 0} (own book : Book) (r answer : Result (Unit {0}) F) (old new : RoleTable) → own ≡ book → r ≡ answer → OnOk r (Begun own new) → OnErr r (new ≡ old) → Edited book answer old new
-edited own book r answer old new same is accepted refused =
-    subst (λ a. Edited book a old new) is (edited_as book r old new (subst (λ b. OnOk r (Begun b new)) same accepted) refused)
+-- by a choice between two facts, the choice between two values
+chosen : {X P Q : Type 0} (b : Bool) (v x y : X) → (P → v ≡ x) → (Q → v ≡ y) → MatchBool b P Q → v ≡ cond b x y
+chosen true v x y if_so if_not fact = if_so fact
+chosen false v x y if_so if_not fact = if_not fact
 
-module _ {N M V : Type 0} {r : readable.Ghosts N} {g : measure.Ghosts M V} (s : Settled N M V r g) where
-  -- a settled session's table is the coarsest
-  pub ended : Ended g.ops (book_in s.session) s.session.table
-  ended = (
-    coarsest_settled g.ops (r.meaning s.session.network) (class_in s.session.table) (role_in s.session.table) s.session.between s.regular,
-    s.session.counted ∙ numbered s.session.table (r.meaning s.session.network).nodes s.session.fits,
-  )
+-- a put or a colour that is refused
+put_refused : (a : Result (Unit {0}) _) (m : Meaning) (classes : Table) (s t : State) → is_edit (Reply.Put a) ≡ false → Edited a m classes s t → t ≡ s
+put_refused (Ok tt) m classes s t e did = absurd (search rules)
+put_refused (Err f) m classes s t e did = did.refused
+
+colour_refused : (a : Result (Unit {0}) _) (m : Meaning) (classes : Table) (s t : State) → is_edit (Reply.Colour a) ≡ false → Edited a m classes s t → t ≡ s
+colour_refused (Ok tt) m classes s t e did = absurd (search rules)
+colour_refused (Err f) m classes s t e did = did.refused
+
+quiet_edit : (r : Reply) → is_quiet r ≡ true → is_edit r ≡ false
+quiet_edit (Reply.Put (Ok tt)) e = absurd (search rules)
+quiet_edit (Reply.Colour (Ok tt)) e = absurd (search rules)
+quiet_edit other e = refl
+
+module _ {V : Type 0} (o : Operations V) where
+  -- the table of a state is the coarsest of its ties and colours
+  abbrev pub Best : State → Type 0
+  Best s = Coarsest o s.network s.colours (role s)
+
+  stepped_quiet : (s t : State) (did : step.Step) → is_quiet (Reply.Step did) ≡ true → Stepped o s t did → t ≡ s
+  stepped_quiet s t Stable e is = is
+  stepped_quiet s t (Split part toward fresh) e is = absurd (search rules)
+
+  stepped_stable : (s t : State) (did : step.Step) → did ≡ Stable → Stepped o s t did → t ≡ s
+  stepped_stable s t did e is = subst (λ d. Stepped o s t d) e is
+
+  stepped_book : (s t : State) (did : step.Step) → Stepped o s t did → book_in t ≡ book_in s
+  stepped_book s t Stable is = ap book_in is
+  stepped_book s t (Split part toward fresh) is = book_same is.network is.colours
+
+  module _ (s t : State) (area : List ℕ) (r : Reply) (after : List ℕ) where
+    does_book : (c : Call) → Does o c s t area r after → book_in t ≡ book_after (book_in s) c
+    does_book (Put i j b) did = book_same did.state.network did.state.colours
+    does_book (Colour i c) did = book_same did.state.network did.state.colours
+    does_book Step did = stepped_book s t did.0 did.2.state
+    does_book Settle did = book_same did.state.network did.state.colours
+    does_book Reopen did = ap book_in did.state
+    does_book (Look q) did = ap book_in did.state
+    does_book (Ask q) did = ap book_in did.state
+    does_book Roles did = ap book_in did.state
+    does_book Splits did = ap book_in did.state
+    does_book (RoleOf x) did = ap book_in did.state
+    does_book (Role x) did = ap book_in did.state
+
+    -- the book is fed what is taken
+    pub booked : (settled : Bool) (c : Call) → Turn o settled c s t area r after → book_in t ≡ cond (takes settled c) (book_after (book_in s) c) (book_in s)
+    booked settled c turn = chosen (takes settled c) _ _ _ (does_book c) (λ not_taken. ap book_in not_taken.state) turn
+
+    -- no call alters a settled session
+    settled_still : (c : Call) → Turn o true c s t area r after → t ≡ s
+    settled_still (Put i j b) turn = turn.state
+    settled_still (Colour i c) turn = turn.state
+    settled_still Step turn = turn.state
+    settled_still Settle turn = turn.state
+    settled_still Reopen turn = turn.state
+    settled_still (Look q) turn = turn.state
+    settled_still (Ask q) turn = turn.state
+    settled_still Roles turn = turn.state
+    settled_still Splits turn = turn.state
+    settled_still (RoleOf x) turn = turn.state
+    settled_still (Role x) turn = turn.state
+
+    -- a quiet reply
+    quiet_open : (c : Call) → Turn o false c s t area r after → is_quiet r ≡ true → t ≡ s
+    quiet_open (Put i j b) turn e = put_refused _ _ _ s t (rw turn.replied at (quiet_edit r e)) turn.state
+    quiet_open (Colour i c) turn e = colour_refused _ _ _ s t (rw turn.replied at (quiet_edit r e)) turn.state
+    quiet_open Step turn e = stepped_quiet s t turn.0 (rw turn.2.replied at e) turn.2.state
+    quiet_open Settle turn e = absurd (search rules)
+    quiet_open Reopen turn e = turn.state
+    quiet_open (Look q) turn e = turn.state
+    quiet_open (Ask q) turn e = turn.state
+    quiet_open Roles turn e = turn.state
+    quiet_open Splits turn e = turn.state
+    quiet_open (RoleOf x) turn e = turn.state
+    quiet_open (Role x) turn e = turn.state
+
+    pub quiet : (settled : Bool) (c : Call) → Turn o settled c s t area r after → is_quiet r ≡ true → t ≡ s
+    quiet true c turn e = settled_still c turn
+    quiet false c turn e = quiet_open c turn e
+
+    same_best : t ≡ s → Best s → Best t
+    same_best same best = subst Best (sym same) best
+
+    -- a session that is not settled, and after the call is
+    settles : (c : Call) → Turn o false c s t area r after → settled_after false c ≡ true → Best t
+    settles Settle turn e = turn.state.coarsest
+    settles other turn e = absurd (search rules)
+
+    -- a settled session has the coarsest table
+    pub best_settled : (settled : Bool) (c : Call) → Turn o settled c s t area r after → (settled ≡ true → Best s) → settled_after settled c ≡ true → Best t
+    best_settled true c turn was e = same_best (settled_still c turn) (was refl)
+    best_settled false c turn was e = settles c turn e
+
+    -- a coarsest table stays, until a put or a colour is accepted
+    rests_open : (c : Call) → Turn o false c s t area r after → Best s → is_edit r ≡ false → Best t
+    rests_open (Put i j b) turn best e = same_best (put_refused _ _ _ s t (rw turn.replied at e) turn.state) best
+    rests_open (Colour i c) turn best e = same_best (colour_refused _ _ _ s t (rw turn.replied at e) turn.state) best
+    rests_open Step turn best e = same_best (stepped_stable s t turn.0 (turn.1.1 best.regular) turn.2.state) best
+    rests_open Settle turn best e = turn.state.coarsest
+    rests_open Reopen turn best e = same_best turn.state best
+    rests_open (Look q) turn best e = same_best turn.state best
+    rests_open (Ask q) turn best e = same_best turn.state best
+    rests_open Roles turn best e = same_best turn.state best
+    rests_open Splits turn best e = same_best turn.state best
+    rests_open (RoleOf x) turn best e = same_best turn.state best
+    rests_open (Role x) turn best e = same_best turn.state best
+
+    pub best_rests : (settled : Bool) (c : Call) → Turn o settled c s t area r after → Best s → is_edit r ≡ false → Best t
+    best_rests true c turn best e = same_best (settled_still c turn) best
+    best_rests false c turn best e = rests_open c turn best e
+
+    -- a step that says stable
+    stable_open : (c : Call) → Turn o false c s t area r after → IsSound o s → r ≡ Reply.Step Stable → Best t
+    stable_open Step turn sound e =
+        let told : turn.0 ≡ Stable = search rules in
+        same_best (stepped_stable s t turn.0 told turn.2.state) (coarsest_settled o s.network s.colours (role s) sound.between (turn.1.0 told))
+    stable_open (Put i j b) turn sound e = absurd (search rules)
+    stable_open (Colour i c) turn sound e = absurd (search rules)
+    stable_open Settle turn sound e = absurd (search rules)
+    stable_open Reopen turn sound e = absurd (search rules)
+    stable_open (Look q) turn sound e = absurd (search rules)
+    stable_open (Ask q) turn sound e = absurd (search rules)
+    stable_open Roles turn sound e = absurd (search rules)
+    stable_open Splits turn sound e = absurd (search rules)
+    stable_open (RoleOf x) turn sound e = absurd (search rules)
+    stable_open (Role x) turn sound e = absurd (search rules)
+
+    pub best_found : (settled : Bool) (c : Call) → Turn o settled c s t area r after → IsSound o s → (settled ≡ true → Best s) → (c ≡ Call.Settle) ⊎ (r ≡ Reply.Step Stable) → Best t
+    best_found true c turn sound was finds = same_best (settled_still c turn) (was refl)
+    best_found false c turn sound was (inl e) = settles c turn (ap (settled_after false) e)
+    best_found false c turn sound was (inr e) = stable_open c turn sound e

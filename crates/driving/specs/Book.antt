@@ -4,10 +4,13 @@
 --   opened         the book at the making: what the network means, and every colour 0
 --   after_put      the book after a put: as the network's put, refused or not
 --   after_colour   the book after a colour: node i has colour c; as before, where it is none
-use Rattle.std.specs.Prelude.{ℕ, cond, ◌&&◌, ◌==◌, nat_lt}
+--   book_in        the ties and colours of a session's state
+use Rattle.std.specs.Prelude.{ℕ}
 use Rattle.network.specs.Meaning.{Meaning}
 use Rattle.network.specs.Put.{put_after}
 use Rattle.equivalence.specs.Regular.{Table}
+use Rattle.session.specs.Sessions.{colours_after}
+use Rattle.session.specs.States.{State}
 
 pub record Book : Type 0 where
   pub network : Meaning
@@ -20,4 +23,7 @@ abbrev pub after_put : Book → ℕ → ℕ → ℕ → Book
 after_put book i j b = record { network = put_after book.network i j b; colours = book.colours }
 
 abbrev pub after_colour : Book → ℕ → ℕ → Book
-after_colour book i c = record { network = book.network; colours = λ x. cond (nat_lt i book.network.nodes && x == i) c (book.colours x) }
+after_colour book i c = record { network = book.network; colours = colours_after book.network.nodes book.colours i c }
+
+abbrev pub book_in : State → Book
+book_in s = record { network = s.network; colours = s.colours }

@@ -1,5 +1,8 @@
 pub mod Book
-pub mod States
+pub mod Courses
 pub mod Turns
+pub mod Runs
+pub mod Laws
+pub mod States
 pub mod Promise
 pub mod Known

@@ -43,22 +43,27 @@ pub enum Reply {
     NotTaken,
 }
 
-// A call, and its reply.
-#[derive(Clone, Copy)]
-pub struct Exchange<'a> {
-    pub call: Call<'a>,
+// A call, the area that it is lent, and its reply.
+#[derive(Drop)]
+pub struct Exchange<'q, 'a> {
+    pub call: Call<'q>,
+    // Where look and ask write. Every other call leaves it as it is.
+    pub area: &'a mut [u8],
     // What stood here before the call was given does not count.
     pub reply: Reply,
 }
 
-impl<'a> Exchange<'a> {
+impl<'q, 'a> Exchange<'q, 'a> {
     // The call, not yet given.
-    pub fn of(call: Call<'a>) -> Exchange<'a>
+    pub fn of(call: Call<'q>, area: &'a mut [u8]) -> Exchange<'q, 'a>
         ensures call { result.call ≡ call.entry }
+        ensures area { result.area.now ≡ area.old }
+        ensures lent { result.area.ghost_name ≡ area.entry.ghost_name }
         ensures reply { result.reply ≡ Reply.NotTaken }
     {
         Exchange {
             call,
+            area,
             reply: Reply::NotTaken,
         }
     }

@@ -1,7 +1,13 @@
 // A session, open or settled, that takes calls in turn.
 ghost use Rattle.std.specs.Prelude.{◌≡◌, false, true};
-ghost use Rattle.driving.specs.States.{book_in, book_of, is_settled, open_in};
-ghost use Rattle.driving.specs.Turns.{Ended, Turn, book_after, settled_after};
+ghost use Rattle.session.specs.OpenSessions.{state_of};
+ghost use Rattle.session.specs.Sessions.{Ended};
+ghost use Rattle.session.specs.SettledSessions.{settled_state};
+ghost use Rattle.session.specs.States.{IsSound};
+ghost use Rattle.driving.specs.Book.{book_in};
+ghost use Rattle.driving.specs.Courses.{course_after, settled_after};
+ghost use Rattle.driving.specs.States.{course_in, is_settled, state_in};
+ghost use Rattle.driving.specs.Turns.{Turn};
 
 use super::call::{Call, Reply};
 use measure::interface::Measure;
@@ -15,15 +21,15 @@ pub enum Session<N: Editable, M: Measure> {
     Settled(Settled<N, M>),
 }
 
-// Gives an open session a call that it takes.
+// Gives an open session the call, where it takes it.
 fn call_open<N: Editable, M: Measure>(
     mut session: Open<N, M>,
     call: Call<'_>,
     area: &mut [u8],
 ) -> (Session<N, M>, Reply)
     ensures settled { is_settled result.0 ≡ settled_after false call.entry }
-    ensures book { book_of result.0 ≡ book_after false (book_in session) call.entry }
-    ensures turn { Turn M.Measure.ops false (book_in session) call.entry session.table area.old result.1 area.new (open_in result.0).table }
+    ensures turn { let t = state_in result.0 in
+        Turn M.Measure.ops false call.entry (state_of session) t area.old result.1 area.new }
 {
     let reply = match call {
         Call::Put(i, j, b) => Reply::Put(session.put(i, j, b)),
@@ -40,15 +46,15 @@ fn call_open<N: Editable, M: Measure>(
     (Session::Open(session), reply)
 }
 
-// Gives a settled session a call that it takes.
+// Gives a settled session the call, where it takes it.
 fn call_settled<N: Editable, M: Measure>(
     session: Settled<N, M>,
     call: Call<'_>,
     area: &mut [u8],
 ) -> (Session<N, M>, Reply)
     ensures settled { is_settled result.0 ≡ settled_after true call.entry }
-    ensures book { book_of result.0 ≡ book_after true (book_in session.session) call.entry }
-    ensures turn { Turn M.Measure.ops true (book_in session.session) call.entry session.session.table area.old result.1 area.new (open_in result.0).table }
+    ensures turn { let t = state_in result.0 in
+        Turn M.Measure.ops true call.entry (settled_state session) t area.old result.1 area.new }
 {
     let reply = match call {
         Call::Reopen => return (Session::Open(session.reopen()), Reply::Reopened),
@@ -66,9 +72,10 @@ fn call_settled<N: Editable, M: Measure>(
 impl<N: Editable, M: Measure> Session<N, M> {
     // Gives the session the call, where it takes it.
     pub fn call(self, call: Call<'_>, area: &mut [u8]) -> (Session<N, M>, Reply)
-        ensures settled { is_settled result.0 ≡ settled_after (is_settled self) call.entry }
-        ensures book { book_of result.0 ≡ book_after (is_settled self) (book_of self) call.entry }
-        ensures turn { Turn M.Measure.ops (is_settled self) (book_of self) call.entry (open_in self).table area.old result.1 area.new (open_in result.0).table }
+        ensures course { course_in result.0 ≡ course_after (course_in self) call.entry }
+        ensures turn { let s = state_in self in let t = state_in result.0 in
+            Turn M.Measure.ops (is_settled self) call.entry s t area.old result.1 area.new }
+        ensures sound { IsSound M.Measure.ops (state_in result.0) }
     {
         match self {
             Session::Open(session) => call_open(session, call, area),
@@ -78,9 +85,9 @@ impl<N: Editable, M: Measure> Session<N, M> {
 
     // The session settled, with the same ties and colours. One that is settled stays as it is.
     pub fn settle(self) -> Settled<N, M>
-        ensures book { book_in result.session ≡ book_of self }
-        ensures ended { Ended M.Measure.ops (book_of self) result.session.table }
-        ensures settled { is_settled self ≡ true → result.session ≡ open_in self }
+        ensures ended { let s = state_in self in
+            is_settled self ≡ false → Ended M.Measure.ops s (settled_state result) }
+        ensures settled { is_settled self ≡ true → settled_state result ≡ state_in self }
     {
         match self {
             Session::Open(session) => session.settle(),

@@ -1,91 +1,117 @@
-use Rattle.std.proofs.Common.{◌≡◌, ◌∙◌, ◌<◌, false, Ok, length, take, get_or, subst, sym, ap, ap₂, refl, arith}
+use Rattle.std.proofs.Common.{◌≡◌, ◌∙◌, ℕ, ◌<◌, length, get_or, subst, sym, ap, refl, inl, inr, get_or-set_other, arith}
+use Rattle.std.proofs.lemmas.Bool.{cases_Bool}
 use Rattle.std.proofs.lemmas.List.{length-map, take_all}
 use Rattle.equivalence.proofs.Levels.{coarsest_level}
-use Rattle.session.specs.Tables.{class_in, role_in}
-use Rattle.session.specs.Sessions.{Starting}
-use Rattle.driving.specs.Book.{opened}
-use Rattle.driving.specs.declared.call.Call.{Call}
-use Rattle.driving.specs.declared.call.Reply.{Reply}
+use Rattle.equivalence.proofs.Refinement.{coarsest_settled}
+use Rattle.session.specs.SettledSessions.{settled_state}
+use Rattle.session.specs.States.{role}
+use Rattle.driving.specs.Book.{book_in}
+use Rattle.driving.specs.Courses.{Course, last_book, settled_after}
 use Rattle.driving.specs.declared.call.Exchange.{Exchange}
-use Rattle.driving.specs.States.{book_in, open_in}
-use Rattle.driving.specs.Turns.{Ended, book_at_last, settled_at_last, book_after, settled_after}
-use Rattle.driving.specs.Promise.{KeepsBook, Coarse, Answers, calls_of, replies_of, last_book}
-use Rattle.driving.proofs.Running.{settled_push, book_push, run_push, calls_written, replies_written, calls_more}
-use Rattle.driving.proofs.Turning.{book_same, ended}
-use Rattle.driving.proofs.Promised.{kept_own, coarse_own, answers_own}
+use Rattle.driving.specs.Runs.{RunTo, Run, calls_of, course_before}
+use Rattle.driving.specs.States.{is_settled, state_in}
+use Rattle.driving.specs.Turns.{Turn}
+use Rattle.driving.proofs.Moments.{books}
+use Rattle.driving.proofs.Promised.{keeps_book, coarse, answers}
+use Rattle.driving.proofs.RunLaws.{asks_law, tellings_law, settles_law}
+use Rattle.driving.proofs.Running.{none, at_within, course_next, run_begun, run_next}
+use Rattle.driving.proofs.Turning.{Best, book_same}
 use Rattle.driving.proofs.drive.drive.Given.{Over}
 use Rattle.driving.proofs.drive.drive.Goals as goal
 
 pub loop-exchange-init : goal.loop-exchange-init
 loop-exchange-init g c =
-    let uncoloured : class_in c.new.result.table ≡ (λ _. 0) = λ p x. c.new.ensures.colours x p in
-    let same : book_in c.new.result ≡ opened (g.N.Readable.meaning c.args.network) = book_same (ap g.N.Readable.meaning c.new.ensures.network) uncoloured in (
-      refl,
-      refl,
-      same,
-      (c.new.result.table, (subst (λ cs. Starting (g.N.Readable.meaning c.args.network).nodes cs (role_in c.new.result.table)) uncoloured c.new.ensures.start, c.new.ensures.splits), (refl, refl)),
-    )
+    (refl, run_begun g.M.Measure.ops (g.N.Readable.meaning c.args.network) c.args.exchanges.now _ c.new.ensures.begun c.new.result.sound, λ j past. refl)
 
 pub loop-exchange-preserved : goal.loop-exchange-preserved
 loop-exchange-preserved g c =
     let o = g.M.Measure.ops in
-    let book = opened (g.N.Readable.meaning c.args.network) in
-    let calls = calls_of c.args.exchanges.now in
+    let m = g.N.Readable.meaning c.args.network in
+    let given = c.args.exchanges.now in
     let xs = c.loop-exchange.exchanges in
     let k = c.loop-exchange.exchange-index in
-    let given = take k calls in
-    let none : Exchange = record { call = Call.Put 0 0 0; reply = Reply.Put (Ok tt) } in
-    let call = (get_or xs k none).call in
-    let reply = c.call.result.1 in
     let i = c.loop-exchange.invariant in
-    let within : k < length xs = omega (arith, c.loop-exchange-test.true, c.loop-exchange.auto) in
-    let more = calls_more xs k within none reply calls i.0 in
-    let (first, begun, run) = i.3 in (
-      calls_written xs k within none reply ∙ i.0,
-      c.call.ensures.settled ∙ ap (λ b. settled_after b call) i.1 ∙ sym (settled_push false given call) ∙ ap (settled_at_last false) (sym more),
-      c.call.ensures.book ∙ ap₂ (λ b t. book_after b t call) i.1 i.2 ∙ sym (book_push false book given call) ∙ ap (book_at_last false book) (sym more),
-      (
-        first,
-        begun,
-        rw (more, replies_written xs k within none reply)
-            (run_push o false book given call first c.args.area.now (take k (replies_of xs)) reply c.loop-exchange.area c.call.new.area (open_in c.loop-exchange.session).table (open_in c.call.result.0).table run (rw (i.1, i.2) at c.call.ensures.turn)),
-      ),
+    let (run, now) = i.1 in
+    let e = get_or given k none in
+    let x = get_or xs k none in
+    let d : Exchange = record { call = x.call; area = record { ref_ptr = x.area.ref_ptr; ghost_name = x.area.ghost_name; now = c.call.new.area }; reply = c.call.result.1 } in
+    let within : k < length given = omega (arith, c.loop-exchange-test.true, run.one_each) in
+    let was : x ≡ e = i.2 k (omega arith) in
+    let here = at_within given none k within in
+    let next = state_in c.call.result.0 in
+    let settled_is : is_settled c.loop-exchange.session ≡ (course_before m given k).settled = i.0 in
+    let turn : Turn o (course_before m given k).settled e.call (run.state k) next e.area.now d.reply d.area.now =
+    rw (was, settled_is, sym now) at c.call.ensures.turn
+    in (
+      ap (λ (t : Course). t.settled) c.call.ensures.course
+          ∙ ap (λ b. settled_after b x.call) settled_is
+          ∙ ap (λ (y : Exchange). settled_after (course_before m given k).settled y.call) was
+          ∙ sym (ap (λ (t : Course). t.settled) (course_next m given k e here)),
+      run_next o m given xs k run within e d here next (record { call = ap (λ (y : Exchange). y.call) was; area = ap (λ (y : Exchange). y.area.ghost_name) was }) turn c.call.ensures.sound,
+      λ j past. get_or-set_other xs k j d none (λ n. omega (arith, past, n)) ∙ i.2 j (omega (arith, past)),
     )
 
 -- all calls are given
-all : (g : Over) (c : goal.After-settle g) → take c.loop-exchange.exchange-index (calls_of c.args.exchanges.now) ≡ calls_of c.args.exchanges.now
-all g c = take_all c.loop-exchange.exchange-index (calls_of c.args.exchanges.now) (omega (arith, c.loop-exchange-test.false, length-map c.args.exchanges.now (λ (e : Exchange). e.call)))
+at_end : (g : Over) (c : goal.After-settle g) → c.loop-exchange.exchange-index ≡ length c.args.exchanges.now
+at_end g c = omega (arith, c.loop-exchange-test.false, c.loop-exchange.auto, c.loop-exchange.invariant.1.0.one_each)
 
--- the book after the calls is the session's own
-last : (g : Over) (c : goal.After-settle g) → book_in c.settle.result.session ≡ last_book (g.N.Readable.meaning c.args.network) (calls_of c.args.exchanges.now)
-last g c = c.settle.ensures.book ∙ c.loop-exchange.invariant.2 ∙ ap (book_at_last false (opened (g.N.Readable.meaning c.args.network))) (all g c)
-
-pub returns-clause-calls : goal.returns-clause-calls
-returns-clause-calls g c = c.loop-exchange.invariant.0
+-- and this is their run
+run : (g : Over) (c : goal.After-settle g) → (run : Run g.M.Measure.ops (g.N.Readable.meaning c.args.network) c.args.exchanges.now c.loop-exchange.exchanges) × (run.state (length c.args.exchanges.now) ≡ state_in c.loop-exchange.session) × (is_settled c.loop-exchange.session ≡ (course_before (g.N.Readable.meaning c.args.network) c.args.exchanges.now (length c.args.exchanges.now)).settled)
+run g c =
+    let m = g.N.Readable.meaning c.args.network in
+    let given = c.args.exchanges.now in
+    let i = c.loop-exchange.invariant in
+    let P : ℕ → Type 0 = λ k. (run : RunTo g.M.Measure.ops m given c.loop-exchange.exchanges k) × (run.state k ≡ state_in c.loop-exchange.session) × (is_settled c.loop-exchange.session ≡ (course_before m given k).settled) in
+    subst P (at_end g c) (i.1.0, i.1.1, i.0)
 
 pub returns-clause-driven : goal.returns-clause-driven
 returns-clause-driven g c =
-    let calls = calls_of c.args.exchanges.now in
-    let i = c.loop-exchange.invariant in
-    let (first, begun, run) = i.3 in
-    let replies : take c.loop-exchange.exchange-index (replies_of c.loop-exchange.exchanges) ≡ replies_of c.loop-exchange.exchanges = take_all c.loop-exchange.exchange-index (replies_of c.loop-exchange.exchanges) (omega (arith, c.loop-exchange-test.false, c.loop-exchange.auto, length-map c.loop-exchange.exchanges (λ (e : Exchange). e.reply))) in
+    let (run, now, settled) = run g c in
     record {
-      first = first;
-      last = (open_in c.loop-exchange.session).table;
-      begun = begun;
-      run = rw (all g c, replies) at run;
-      settled = λ e. ap (λ s. s.table) (c.settle.ensures.settled (i.1 ∙ ap (settled_at_last false) (all g c) ∙ e));
-      ended = subst (λ b. Ended g.M.Measure.ops b c.settle.result.session.table) (last g c) (ended c.settle.result);
+      run = run;
+      sound = c.settle.result.session.sound;
+      settled = λ e. c.settle.ensures.settled (settled ∙ e) ∙ sym now;
+      ended = λ e. rw now (c.settle.ensures.ended (settled ∙ e));
     }
 
+-- the book after the calls is the session's own
+last : (g : Over) (c : goal.After-settle g) → book_in (settled_state c.settle.result) ≡ last_book (g.N.Readable.meaning c.args.network) (calls_of c.args.exchanges.now)
+last g c =
+    let m = g.N.Readable.meaning c.args.network in
+    let given = c.args.exchanges.now in
+    let (run, now, settled) = run g c in
+    let own : book_in (settled_state c.settle.result) ≡ book_in (state_in c.loop-exchange.session) =
+    elim (cases_Bool (is_settled c.loop-exchange.session)) [
+      | inl e ↦ ap book_in (c.settle.ensures.settled e)
+      | inr e ↦ let ended = c.settle.ensures.ended e in book_same ended.network ended.colours
+    ]
+    in
+    own ∙ ap book_in (sym now) ∙ books g.M.Measure.ops m given c.loop-exchange.exchanges run (length given) (omega arith)
+    ∙ ap (λ calls. last_book m calls) (take_all (length given) (calls_of given) (omega (arith, length-map given (λ (e : Exchange). e.call))))
+
+best : (g : Over) (c : goal.After-settle g) → Best g.M.Measure.ops (settled_state c.settle.result)
+best g c =
+    let s = c.settle.result in
+    let state = settled_state s in
+    coarsest_settled g.M.Measure.ops state.network state.colours (role state) s.session.sound.between s.regular
+
 pub returns-clause-kept : goal.returns-clause-kept
-returns-clause-kept g c = subst (λ b. KeepsBook b c.settle.result) (last g c) (kept_own g.met.M.Measure.lawful c.settle.result)
+returns-clause-kept g c = keeps_book g.M.Measure.ops g.met.M.Measure.lawful (settled_state c.settle.result) c.settle.result.session.sound (best g c) _ (last g c)
 
 pub returns-clause-coarse : goal.returns-clause-coarse
-returns-clause-coarse g c = subst (λ b. Coarse b c.settle.result) (last g c) (coarse_own g.met.M.Measure.lawful c.settle.result)
+returns-clause-coarse g c = coarse g.M.Measure.ops g.met.M.Measure.lawful (settled_state c.settle.result) c.settle.result.session.sound (best g c) _ (last g c)
 
 pub returns-clause-answers : goal.returns-clause-answers
-returns-clause-answers g c = subst (λ b. Answers b c.settle.result) (last g c) (answers_own g.met.M.Measure.lawful c.settle.result)
+returns-clause-answers g c = answers g.M.Measure.ops g.met.M.Measure.lawful (settled_state c.settle.result) c.settle.result.session.sound (best g c) _ (last g c)
 
 pub returns-clause-levels : goal.returns-clause-levels
 returns-clause-levels g c = coarsest_level g.M.Measure.ops g.met.M.Measure.lawful
+
+pub returns-clause-asks : goal.returns-clause-asks
+returns-clause-asks g c = asks_law g.M.Measure.ops g.met.M.Measure.lawful
+
+pub returns-clause-tellings : goal.returns-clause-tellings
+returns-clause-tellings g c = tellings_law g.M.Measure.ops g.met.M.Measure.lawful
+
+pub returns-clause-settles : goal.returns-clause-settles
+returns-clause-settles g c = settles_law g.M.Measure.ops g.met.M.Measure.lawful

@@ -1,18 +1,14 @@
-use Rattle.std.proofs.Common.{◌≡◌, false, take}
-use Rattle.session.specs.declared.table.Table.{Table as RoleTable}
-use Rattle.driving.specs.Book.{opened}
-use Rattle.driving.specs.Promise.{calls_of, replies_of}
-use Rattle.driving.specs.States.{is_settled, open_in, book_of}
-use Rattle.driving.specs.Turns.{Begun, Run, settled_at_last, book_at_last}
+use Rattle.std.proofs.Common.{◌≡◌, ℕ, ◌≤◌, get_or}
+use Rattle.driving.specs.Runs.{RunTo, course_before}
+use Rattle.driving.specs.States.{is_settled, state_in}
+use Rattle.driving.proofs.Running.{none}
 use Rattle.driving.proofs.drive.drive.Given as goal
 
--- the calls so far are given
+-- the calls so far are given, and the exchanges behind them are as they were handed
 abbrev pub invariant-loop-exchange : goal.invariant-loop-exchange
 invariant-loop-exchange g l =
-    let book = opened (g.N.Readable.meaning l.fn.network) in
+    let m = g.N.Readable.meaning l.fn.network in
     let k = l.exchange-index in
-    let given = take k (calls_of l.fn.exchanges) in
-    (calls_of l.exchanges ≡ calls_of l.fn.exchanges)
-    × (is_settled l.session ≡ settled_at_last false given)
-    × (book_of l.session ≡ book_at_last false book given)
-    × ((first : RoleTable) × Begun book first × Run g.M.Measure.ops false book given first l.fn.area (take k (replies_of l.exchanges)) l.area (open_in l.session).table)
+    (is_settled l.session ≡ (course_before m l.fn.exchanges k).settled)
+    × ((run : RunTo g.M.Measure.ops m l.fn.exchanges l.exchanges k) × (run.state k ≡ state_in l.session))
+    × ((j : ℕ) → k ≤ j → get_or l.exchanges j none ≡ get_or l.fn.exchanges j none)

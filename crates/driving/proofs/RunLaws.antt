@@ -1,0 +1,123 @@
+-- What holds in every run. Assumes nothing.
+use Rattle.std.proofs.Common.{rules, ◌≡◌, ℕ, ◌+◌, ◌<◌, ◌≤◌, Bool, true, false, cond, ltb, List, length, Result, Ok, Err, refl, sym, ap, subst, ◌∙◌, arith}
+use Rattle.std.proofs.lemmas.Bool.Decides.{nat_tests}
+use Rattle.network.specs.Meaning.{Meaning}
+use Rattle.measure.specs.Measures.{Operations, Laws}
+use Rattle.equivalence.specs.Coarsest.{Coarsest, roles}
+use Rattle.equivalence.specs.Levels.{coarsest_table}
+use Rattle.equivalence.specs.Vetted.{table_of}
+use Rattle.equivalence.proofs.Levels.{coarsest_named}
+use Rattle.question.specs.Areas.{NodesAnswered}
+use Rattle.question.specs.Checks.{answer_start}
+use Rattle.session.specs.Questions.{AnswersNodes, AnswersRoles}
+use Rattle.session.specs.Roles.{Described}
+use Rattle.session.specs.States.{State, record_of, role, role_count}
+use Rattle.session.specs.Tellings.{role_answer, record_answer}
+use Rattle.session.specs.declared.faults.Fault.{Fault}
+use Rattle.session.specs.declared.role.Role as role_record
+use Rattle.session.proofs.Asked.{look_answers, ask_answers}
+use Rattle.driving.specs.Book.{Book}
+use Rattle.driving.specs.Courses.{Course}
+use Rattle.driving.specs.Laws.{Told, Questions, Telling, Settles, AsksLaw, TellingsLaw, SettlesLaw}
+use Rattle.driving.specs.Runs.{Run, course_before}
+use Rattle.driving.specs.Turns.{Turn}
+use Rattle.driving.specs.declared.call.Call.{Call}
+use Rattle.driving.specs.declared.call.Exchange.{Exchange}
+use Rattle.driving.specs.declared.call.Reply.{Reply}
+use Rattle.driving.proofs.Moments.{turn_at, books, bests, still_same, rests_best}
+use Rattle.std.proofs.lemmas.Option.{slice_get_within}
+
+-- of a reply that is a number or a refusal
+accepted_in : {X F : Type 0} (b : Bool) (v w : X) (f : F) → ◌≡◌ {A = Result X F} (Ok w) (cond b (Ok v) (Err f)) → (b ≡ true) × (w ≡ v)
+accepted_in true v w f e = (refl, search rules)
+accepted_in false v w f e = absurd (search rules)
+
+module _ {V : Type 0} (o : Operations V) (laws : Laws o) (m : Meaning) (given done : List Exchange) (run : Run o m given done) where
+  abbrev then : ℕ → State
+  then = run.state
+
+  abbrev course : ℕ → Course
+  course = course_before m given
+
+  questions : Questions o m given done run
+  questions =
+      record {
+        look = λ k e d q start here there asks.
+            let l = slice_get_within given k e here in
+            let turn = subst (λ c. Turn o (course k).settled c (then k) (then (k + 1)) e.area.now d.reply d.area.now) asks (turn_at o m given done run k e d here there) in
+            subst (λ (b : Book). answer_start q.now b.network.nodes (length e.area.now) ≡ Ok start → (d.reply ≡ Reply.Look (Ok start)) × NodesAnswered o b.network b.colours q.now (λ x. x) b.network.nodes start d.area.now)
+            (books o m given done run k (omega (arith, l)))
+            (λ passes. (turn.replied ∙ ap (λ v. Reply.Look v) passes, subst (AnswersNodes o (then k) q.now start) (sym turn.area) (look_answers o (then k) q.now e.area.now start passes)));
+        ask = λ k e d q start here there asks settled passes.
+            let l : k ≤ length given = omega (arith, slice_get_within given k e here) in
+            let turn = subst (λ b. Turn o b (Call.Ask q) (then k) (then (k + 1)) e.area.now d.reply d.area.now) settled (subst (λ c. Turn o (course k).settled c (then k) (then (k + 1)) e.area.now d.reply d.area.now) asks (turn_at o m given done run k e d here there)) in (
+              turn.replied ∙ ap (λ v. Reply.Ask v) passes,
+              subst (λ (b : Book). NodesAnswered o b.network b.colours q.now (role (then k)) (role_count (then k)) start d.area.now) (books o m given done run k l)
+                  (subst (AnswersRoles o (then k) q.now start) (sym turn.area)
+                  (ask_answers o (then k) q.now e.area.now start laws (run.sound k l) (bests o m given done run k l settled).regular passes)),
+            );
+      }
+
+  module _ (i : ℕ) (within : i ≤ length given) where
+    abbrev s : State
+    s = then i
+
+    -- a call that is told of the state alone
+    told_as : (call : Call) (answer : State → Reply) → ((settled : Bool) (s t : State) (area : List ℕ) (r : Reply) (after : List ℕ) → Turn o settled call s t area r after → r ≡ answer s) → (reply : Reply) → Told given done i call reply → reply ≡ answer s
+    told_as call answer does reply (k, e, d, still, here, there, is, told) =
+        let l : k ≤ length given = omega (arith, slice_get_within given k e here) in
+        let turn = subst (λ c. Turn o (course k).settled c (then k) (then (k + 1)) e.area.now d.reply d.area.now) is (turn_at o m given done run k e d here there) in
+        sym told ∙ does (course k).settled (then k) (then (k + 1)) e.area.now d.reply d.area.now turn ∙ ap answer (still_same o m given done run i k l still)
+
+    told_record : (r : ℕ) (v : role_record.Role) → Told given done i (Call.Role r) (Reply.Role (Ok v)) → (r < role_count s) × (v ≡ record_of s r)
+    told_record r v told =
+        let is : ◌≡◌ {A = Reply} (Reply.Role (Ok v)) (Reply.Role (record_answer s r)) = told_as (Call.Role r) (λ s. Reply.Role (record_answer s r)) (λ b s t area r after turn. turn.replied) _ told in
+        let (known, same) = accepted_in (ltb r (role_count s)) (record_of s r) v Fault.Role (search rules) in
+        (grind (arith, nat_tests), same)
+
+    telling : Telling o m given done run i
+    telling =
+        let sound = run.sound i within in
+        let book = books o m given done run i within in
+        record {
+          count = λ c told.
+              let is : ◌≡◌ {A = Reply} (Reply.Roles c) (Reply.Roles (role_count s)) = told_as Call.Roles (λ s. Reply.Roles (role_count s)) (λ b s t area r after turn. turn.replied) _ told in
+              search rules;
+          splits = λ k told.
+              let is : ◌≡◌ {A = Reply} (Reply.Splits k) (Reply.Splits s.splits) = told_as Call.Splits (λ s. Reply.Splits s.splits) (λ b s t area r after turn. turn.replied) _ told in
+              let same : k ≡ s.splits = search rules in
+              subst (λ (b : Book). k + roles b.colours b.network.nodes ≡ role_count s) book (omega (arith, same, sound.counted));
+          node = λ x r told.
+              let is : ◌≡◌ {A = Reply} (Reply.RoleOf (Ok r)) (Reply.RoleOf (role_answer s x)) = told_as (Call.RoleOf x) (λ s. Reply.RoleOf (role_answer s x)) (λ b s t area r after turn. turn.replied) _ told in
+              let (known, same) = accepted_in (ltb x s.network.nodes) (role s x) r Fault.Node (search rules) in
+              let below : x < s.network.nodes = grind (arith, nat_tests) in
+              (subst (λ (b : Book). x < b.network.nodes) book below, same, omega (arith, same, sound.ranged x below));
+          same = λ r v w told again. (told_record r v told).1 ∙ sym (told_record r w again).1;
+          described = λ r v told.
+              let (known, is) = told_record r v told in
+              subst (λ (b : Book). Described b.network.nodes (role s) r v) book (subst (Described s.network.nodes (role s) r) (sym is) (sound.described r known));
+        }
+
+  settles : (k : ℕ) → k ≤ length given → Coarsest o (then k).network (then k).colours (role (then k)) → Settles o m given done run k
+  settles k within best =
+      let s = then k in
+      let sound = run.sound k within in
+      let book = books o m given done run k within in
+      record {
+        coarsest = subst (λ (b : Book). Coarsest o b.network b.colours (role s)) book best;
+        computed =
+            subst (λ (b : Book). (x : ℕ) → x < b.network.nodes → s.head (role s x) ≡ table_of (coarsest_table o b.network b.colours) x) book
+            (λ x l.
+            let told = sound.described (role s x) (sound.ranged x l) in
+            coarsest_named o laws s.network s.colours (role s) best x (s.head (role s x)) l (record { mate = told.mate; lowest = told.lowest }));
+      }
+
+module _ {V : Type 0} (o : Operations V) (laws : Laws o) where
+  pub asks_law : AsksLaw o
+  asks_law = questions o laws
+
+  pub tellings_law : TellingsLaw o
+  tellings_law = telling o laws
+
+  pub settles_law : SettlesLaw o
+  settles_law m given done run j k l within finds rests = settles o laws m given done run k within (rests_best o m given done run j k l within finds rests)

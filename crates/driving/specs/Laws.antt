@@ -1,0 +1,102 @@
+-- What holds in every run, at each of its moments: moment k is before call k. Assumes nothing.
+--
+--   is_edit          a put or a colour is accepted
+--   is_quiet         the reply leaves the table as it is
+--   Still            from moment i to moment k every reply is quiet
+--   Told             from moment i on, while the table stays as it is, the call is replied to so
+--   Rests            behind call j and up to moment k, no put and no colour is accepted
+--   Finds            call j finds the coarsest table: a settle, or a step that says stable
+--   Questions        each row of a look has the network's answer for each node, each row of an ask for each node's role
+--   Telling          what is told from moment i on, until the table is altered, is told of one table
+--   Settles          once it is found, the table is the coarsest of the book of the moment, until a put or a colour is accepted
+--   AsksLaw, TellingsLaw, SettlesLaw    so it is in every run
+use Rattle.std.specs.Borrow.{Bor}
+use Rattle.std.specs.Prelude.{◌≡◌, ◌⊎◌, ℕ, ◌+◌, ◌<◌, ◌≤◌, Bool, true, false, List, length, Ok}
+use Rattle.network.specs.Meaning.{Meaning}
+use Rattle.measure.specs.Measures.{Operations}
+use Rattle.equivalence.specs.Coarsest.{Coarsest, roles}
+use Rattle.equivalence.specs.Levels.{coarsest_table}
+use Rattle.equivalence.specs.Vetted.{table_of}
+use Rattle.question.specs.Areas.{NodesAnswered}
+use Rattle.question.specs.Checks.{answer_start}
+use Rattle.question.specs.declared.line.Line.{Line}
+use Rattle.session.specs.Roles.{Described}
+use Rattle.session.specs.States.{State, role, role_count}
+use Rattle.session.specs.declared.role.Role as role_record
+use Rattle.session.specs.declared.step.Step.TheVariants.{Stable, Split}
+use Rattle.driving.specs.Book.{Book}
+use Rattle.driving.specs.Runs.{At, Run, course_before}
+use Rattle.driving.specs.declared.call.Call.{Call}
+use Rattle.driving.specs.declared.call.Exchange.{Exchange}
+use Rattle.driving.specs.declared.call.Reply.{Reply}
+use Rattle.driving.specs.declared.call.Reply.TheVariants as replies
+
+abbrev pub is_edit : Reply → Bool
+is_edit (replies.Put (Ok _)) = true
+is_edit (replies.Colour (Ok _)) = true
+is_edit other = false
+
+abbrev pub is_quiet : Reply → Bool
+is_quiet (replies.Put (Ok _)) = false
+is_quiet (replies.Colour (Ok _)) = false
+is_quiet (replies.Step (Split part toward fresh)) = false
+is_quiet replies.Settled = false
+is_quiet other = true
+
+module _ (given done : List Exchange) where
+  abbrev pub Still : ℕ → ℕ → Type 0
+  Still i k = (i ≤ k) × ((j : ℕ) (d : Exchange) → i ≤ j → j < k → At done j d → is_quiet d.reply ≡ true)
+
+  abbrev pub Told : ℕ → Call → Reply → Type 0
+  Told i call reply = (k : ℕ) × (e : Exchange) × (d : Exchange) × Still i k × At given k e × At done k d × (e.call ≡ call) × (d.reply ≡ reply)
+
+  abbrev pub Rests : ℕ → ℕ → Type 0
+  Rests j k = (i : ℕ) (d : Exchange) → j < i → i < k → At done i d → is_edit d.reply ≡ false
+
+  abbrev pub Finds : ℕ → Type 0
+  Finds j = (e : Exchange) × (d : Exchange) × At given j e × At done j d × ((e.call ≡ Call.Settle) ⊎ (d.reply ≡ Reply.Step Stable))
+
+module _ {V : Type 0} (o : Operations V) where
+  module _ (m : Meaning) (given done : List Exchange) (run : Run o m given done) where
+    -- the book of a moment, and the table of the session then
+    abbrev book : ℕ → Book
+    book k = (course_before m given k).book
+
+    abbrev then : ℕ → State
+    then = run.state
+
+    -- of a question that passes its checks
+    pub record Questions : Type 0 where
+      pub look : (k : ℕ) (e d : Exchange) (q : Bor (List Line)) (start : ℕ)
+          → At given k e → At done k d → e.call ≡ Call.Look q
+          → answer_start q.now (book k).network.nodes (length e.area.now) ≡ Ok start
+          → (d.reply ≡ Reply.Look (Ok start)) × NodesAnswered o (book k).network (book k).colours q.now (λ x. x) (book k).network.nodes start d.area.now
+      -- taken, as the session is settled
+      pub ask : (k : ℕ) (e d : Exchange) (q : Bor (List Line)) (start : ℕ)
+          → At given k e → At done k d → e.call ≡ Call.Ask q → (course_before m given k).settled ≡ true
+          → answer_start q.now (role_count (then k)) (length e.area.now) ≡ Ok start
+          → (d.reply ≡ Reply.Ask (Ok start)) × NodesAnswered o (book k).network (book k).colours q.now (role (then k)) (role_count (then k)) start d.area.now
+
+    pub record Telling (i : ℕ) : Type 0 where
+      -- how many roles there are, and how many were split: roles minus starting classes
+      pub count : (c : ℕ) → Told given done i Call.Roles (Reply.Roles c) → c ≡ role_count (then i)
+      pub splits : (k : ℕ) → Told given done i Call.Splits (Reply.Splits k) → k + roles (book i).colours (book i).network.nodes ≡ role_count (then i)
+      -- a told role is that of the node, and below the number of roles
+      pub node : (x r : ℕ) → Told given done i (Call.RoleOf x) (Reply.RoleOf (Ok r)) → (x < (book i).network.nodes) × (r ≡ role (then i) x) × (r < role_count (then i))
+      -- of one role one record is told: its head is the lowest node of that role, and its size the number of its nodes
+      pub same : (r : ℕ) (v w : role_record.Role) → Told given done i (Call.Role r) (Reply.Role (Ok v)) → Told given done i (Call.Role r) (Reply.Role (Ok w)) → v ≡ w
+      pub described : (r : ℕ) (v : role_record.Role) → Told given done i (Call.Role r) (Reply.Role (Ok v)) → Described (book i).network.nodes (role (then i)) r v
+
+    pub record Settles (k : ℕ) : Type 0 where
+      pub coarsest : Coarsest o (book k).network (book k).colours (role (then k))
+      -- and it is the computed one: the head of a node's role is the node's entry there
+      pub computed : (x : ℕ) → x < (book k).network.nodes → (then k).head (role (then k) x) ≡ table_of (coarsest_table o (book k).network (book k).colours) x
+
+  abbrev pub AsksLaw : Type 0
+  AsksLaw = (m : Meaning) (given done : List Exchange) (run : Run o m given done) → Questions m given done run
+
+  abbrev pub TellingsLaw : Type 0
+  TellingsLaw = (m : Meaning) (given done : List Exchange) (run : Run o m given done) (i : ℕ) → i ≤ length given → Telling m given done run i
+
+  abbrev pub SettlesLaw : Type 0
+  SettlesLaw = (m : Meaning) (given done : List Exchange) (run : Run o m given done) (j k : ℕ) → j < k → k ≤ length given → Finds given done j → Rests given done j k → Settles m given done run k
