@@ -17,12 +17,10 @@ use Rattle.measure.specs.Bundles.{bundle}
 use Rattle.equivalence.specs.Classical.{tied_by}
 use Rattle.equivalence.specs.Equitable.{out_neighbours}
 use Rattle.equivalence.specs.Regular.{Table}
-use Rattle.equivalence.specs.Coarsest.{roles}
 use Rattle.question.specs.Truth.{answer, each_node}
 use Rattle.question.specs.declared.line.Line.{Line}
 use Rattle.question.specs.declared.line.Claim.{Claim}
-use Rattle.session.specs.Tables.{head_in, role_in}
-use Rattle.session.specs.declared.table.Table.{Table as RoleTable}
+use Rattle.session.specs.States.{State, role, role_count}
 use Rattle.manual.specs.declared.asking.Answer.{Answer}
 
 abbrev pub Means : {V : Type 0} → Operations V → (Meaning → ℕ → Type 0) → List Line → Type 0
@@ -49,9 +47,9 @@ TiedToTwoEnds m x = 2 ≤ out_neighbours m x (λ y. out_neighbours m y any == 0)
 abbrev pub ones : List ℕ → List ℕ
 ones row = filter (λ p. slice_index row p == 1) (range_with_len 0 (length row))
 
-pub record Answered (m : Meaning) (t : RoleTable) (says : ℕ → Bool) (a : Answer) : Type 0 where
-  pub nodes : a.nodes.items ≡ filter says (range_with_len 0 m.nodes)
+pub record Answered (s : State) (says : ℕ → Bool) (a : Answer) : Type 0 where
+  pub nodes : a.nodes.items ≡ filter says (range_with_len 0 s.network.nodes)
   -- the roles whose head is one of them
-  pub roles : a.roles.items ≡ filter (λ r. says (head_in t r)) (range_with_len 0 (roles (role_in t) m.nodes))
+  pub roles : a.roles.items ≡ filter (λ r. says (s.head r)) (range_with_len 0 (role_count s))
   -- a role is named exactly where each of its nodes is
-  pub agree : (x : ℕ) → x < m.nodes → Contains a.roles.items (role_in t x) ↔ Contains a.nodes.items x
+  pub agree : (x : ℕ) → x < s.network.nodes → Contains a.roles.items (role s x) ↔ Contains a.nodes.items x

@@ -1,15 +1,15 @@
 // What the page asks of a settled network, and what the session answers.
-ghost use Rattle.std.specs.Prelude.{◌≡◌, ℕ, map, IfOk};
+ghost use Rattle.std.specs.Prelude.{◌≡◌, ℕ, map, Ok, IfOk};
 ghost use Rattle.network.specs.Meaning.{Meaning};
 ghost use Rattle.measure.specs.Kinds.{kinds};
 ghost use Rattle.measure.specs.Bundles.{bundles};
 ghost use Rattle.measure.specs.Tally.{tally};
+ghost use Rattle.question.specs.Checks.{lines_check};
 ghost use Rattle.question.specs.Lines.{claim};
 ghost use Rattle.question.specs.Truth.{answer, each_node};
-ghost use Rattle.session.specs.Tables.{class_in};
+ghost use Rattle.session.specs.SettledSessions.{settled_state};
 ghost use Rattle.manual.specs.Asking.{Means, TiedToAnEnd, TiedOneWay, TiedToTwoEnds, toward_claims, ones, Answered};
 
-use super::trouble::Trouble;
 use equivalence::classical::Classical;
 use measure::bundles::Bundles;
 use measure::interface::Measure;
@@ -31,14 +31,16 @@ pub(crate) struct Question {
 pub(crate) trait Asks: Classical {
     ghost sought: { Meaning → ℕ → Type 0 };
 
-    // It is true of just the nodes that are sought.
+    // It is true of just the nodes that are sought, and none of its lines is refused.
     fn question(&self) -> Question
-        ensures { Means Self.Measure.ops sought result.lines };
+        ensures means { Means Self.Measure.ops sought result.lines }
+        ensures taken { lines_check 0 result.lines ≡ Ok tt };
 }
 
 // Who holds test t toward the nodes that do not hold test s.
 fn toward_those_without(s: u8, t: u8) -> [Line; 4]
-    ensures { map claim result ≡ toward_claims s t }
+    ensures claims { map claim result ≡ toward_claims s t }
+    ensures taken { lines_check 0 result ≡ Ok tt }
 {
     [
         Line::colour(0),
@@ -52,7 +54,8 @@ impl Asks for Kinds {
     ghost sought = { TiedToAnEnd };
 
     fn question(&self) -> Question
-        ensures { Means kinds TiedToAnEnd result.lines }
+        ensures means { Means kinds TiedToAnEnd result.lines }
+        ensures taken { lines_check 0 result.lines ≡ Ok tt }
     {
         Question {
             words: "is tied to a node that is tied to none",
@@ -65,7 +68,8 @@ impl Asks for Bundles {
     ghost sought = { TiedOneWay };
 
     fn question(&self) -> Question
-        ensures { Means bundles TiedOneWay result.lines }
+        ensures means { Means bundles TiedOneWay result.lines }
+        ensures taken { lines_check 0 result.lines ≡ Ok tt }
     {
         Question {
             words: "is tied one way to a node with no mutual tie",
@@ -78,7 +82,8 @@ impl Asks for Tally {
     ghost sought = { TiedToTwoEnds };
 
     fn question(&self) -> Question
-        ensures { Means tally TiedToTwoEnds result.lines }
+        ensures means { Means tally TiedToTwoEnds result.lines }
+        ensures taken { lines_check 0 result.lines ≡ Ok tt }
     {
         Question {
             words: "is tied to two nodes or more that are tied to none",
@@ -94,7 +99,7 @@ pub(crate) struct Answer {
     pub(crate) nodes: Vec<usize>,
 }
 
-// The places where a row is true, in order.
+// The places where a row is true, in order. Only memory can fail.
 #[tactic(auto, using(session::proofs::Ranges::filter_in, session::proofs::Ranges::filter_out))]
 fn places(heap: Global, row: &[u8]) -> Result<Vec<usize>, AllocError>
     ensures { IfOk result (λ places. places.items ≡ ones row.now) }
@@ -108,18 +113,22 @@ fn places(heap: Global, row: &[u8]) -> Result<Vec<usize>, AllocError>
     Ok(places)
 }
 
-// Asks each role, and then each node. The area has room for four lines at 128 nodes.
+// Asks each role, and then each node. Only memory can fail.
 pub(crate) fn answered<N: Editable, M: Measure>(
     heap: Global,
     settled: &Settled<N, M>,
     question: &[Line; 4],
-) -> Result<Answer, Trouble>
-    ensures { IfOk result (Answered (N.Readable.meaning settled.now.session.network) settled.now.session.table (answer M.Measure.ops (N.Readable.meaning settled.now.session.network) (class_in settled.now.session.table) each_node question.now)) }
+) -> Result<Answer, AllocError>
+    requires { lines_check 0 question.now ≡ Ok tt }
+    ensures { let s = settled_state settled.now in
+        let says = answer M.Measure.ops s.network s.colours each_node question.now in
+        IfOk result (Answered s says) }
 {
+    // Four lines at 128 nodes. So no question of four lines that pass is refused.
     let mut area = [0; 512];
-    let start = settled.ask(question, &mut area)?;
+    let start = settled.ask(question, &mut area).unwrap();
     let roles = places(heap, &area[start..start + settled.roles()])?;
-    let start = settled.look(question, &mut area)?;
+    let start = settled.look(question, &mut area).unwrap();
     let nodes = places(heap, &area[start..start + settled.network().nodes()])?;
     Ok(Answer { roles, nodes })
 }

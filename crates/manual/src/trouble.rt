@@ -9,8 +9,6 @@ pub enum Trouble {
     Network(#[from] network::faults::Fault),
     #[error("the vet refuses with {}", .0.number())]
     Vet(#[from] equivalence::faults::Fault),
-    #[error("the question is refused with {}", .0.number())]
-    Question(#[from] question::faults::Fault),
     #[error("out of memory")]
     Memory(#[from] AllocError),
     #[error("the output cannot be written")]

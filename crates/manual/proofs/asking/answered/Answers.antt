@@ -1,14 +1,15 @@
-use Rattle.std.proofs.Common.{ap, ◌∙◌}
+use Rattle.std.proofs.Common.{ap, sym, ◌∙◌}
+use Rattle.session.specs.SettledSessions.{settled_state}
 use Rattle.manual.proofs.LastRows.{answered}
 use Rattle.manual.proofs.asking.answered.Goals as goal
 
 pub returns : goal.returns
 returns g c =
-    let s = c.args.settled.now.session in
-    let asked = c.in_ok-start.ensures in
-    let looked = c.in_ok-start-2.ensures in
-    let nodes = c.nodes.ensures.value ∙ ap (λ w. (g.N.Readable.meaning w).nodes) c.network.ensures in
-    answered g.M.Measure.ops (g.N.Readable.meaning s.network) s.table s.fits c.args.question.now
-    c.ask.new.area 512 c.in_ok-start.start c.roles.result c.ask.auto.area asked.start c.roles.ensures asked.agrees
-    c.look.new.area c.in_ok-start-2.start c.nodes.result c.look.auto.area looked.start nodes looked.area
+    let s = c.args.settled.now in
+    let start = c.unwrap-start.ensures in
+    let next = c.unwrap-start-2.ensures in
+    let nodes = c.nodes.ensures.value ∙ ap (λ n. (g.N.Readable.meaning n).nodes) c.network.ensures in
+    answered g.M.Measure.ops (settled_state s) s.session.sound c.args.question.now
+    c.ask.new.area 512 c.unwrap-start.result c.roles.result c.ask.auto.area (sym c.ask.ensures.start ∙ start) c.roles.ensures (rw start at c.ask.ensures.agrees)
+    c.look.new.area c.unwrap-start-2.result c.nodes.result (sym c.look.ensures.start ∙ next) c.look.auto.area nodes c.look.ensures.area
     _ c.in_ok-roles.ensures c.in_ok-nodes.ensures
