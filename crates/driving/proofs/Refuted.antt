@@ -1,6 +1,6 @@
 -- Runs that there are not: what they would tell is a lie. Assumes nothing.
 use Rattle.std.specs.Borrow.{Bor}
-use Rattle.std.proofs.Common.{rules, ◌≡◌, ℕ, zero, ◌+◌, ◌*◌, ◌-◌, ◌<◌, ◌≤◌, Bool, true, false, cond, ltb, List, [], ◌∷◌, length, slice_index, Ok, refl, sym, ap, subst, ◌∙◌, arith}
+use Rattle.std.proofs.Common.{◌≡◌, ℕ, ◌+◌, ◌*◌, ◌-◌, ◌<◌, ◌≤◌, true, false, ltb, List, [], ◌∷◌, length, slice_index, Ok, refl, ap, arith}
 use Rattle.std.proofs.lemmas.Bool.Decides.{nat_tests}
 use Rattle.network.specs.Meaning.{Meaning}
 use Rattle.network.proofs.Counting.{count_below_le}
@@ -15,7 +15,7 @@ use Rattle.driving.specs.declared.call.Call.{Call}
 use Rattle.driving.specs.declared.call.Exchange.{Exchange}
 use Rattle.driving.specs.declared.call.Reply.{Reply}
 use Rattle.driving.proofs.Moments.{books}
-use Rattle.driving.proofs.RunLaws.{asks_law, tellings_law}
+use Rattle.driving.proofs.RunLaws.{questions_law, tellings_law}
 
 -- there are no more roles than nodes
 roles_few : (s : State) → role_count s ≤ s.network.nodes
@@ -45,7 +45,7 @@ module _ {V : Type 0} (o : Operations V) (laws : Laws o) (m : Meaning) where
         let same : s.network.nodes ≡ m.nodes = ap (λ (b : Book). b.network.nodes) (books o m given done run 2 (omega arith)) in
         let fits : ltb (length c.area.now) (1 * width) ≡ false = grind (arith, nat_tests, roles_few s, same) in
         let passes : answer_start question.now width (length c.area.now) ≡ Ok (1 * width - width) = rw fits refl in
-        let law = (asks_law o laws m given done run).ask 2 (record c { call = Call.Ask question }) asked question (1 * width - width) refl there refl refl passes in
+        let law = (questions_law o laws m given done run).ask 2 (record c { call = Call.Ask question }) asked question (1 * width - width) refl there refl refl passes in
         let first_node : ltb 0 m.nodes ≡ true = grind (arith, nat_tests) in
         let byte = rw first_node at (law.1.last 0 some) in
         omega (arith, byte, zeros (1 * width - width + role s 0))

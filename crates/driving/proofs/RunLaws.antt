@@ -18,7 +18,7 @@ use Rattle.session.specs.declared.role.Role as role_record
 use Rattle.session.proofs.Asked.{look_answers, ask_answers}
 use Rattle.driving.specs.Book.{Book}
 use Rattle.driving.specs.Courses.{Course}
-use Rattle.driving.specs.Laws.{Told, Questions, Telling, Settles, AsksLaw, TellingsLaw, SettlesLaw}
+use Rattle.driving.specs.Laws.{Told, Questions, Tellings, Settles, QuestionsLaw, TellingsLaw, SettlesLaw}
 use Rattle.driving.specs.Runs.{Run, course_before}
 use Rattle.driving.specs.Turns.{Turn}
 use Rattle.driving.specs.declared.call.Call.{Call}
@@ -75,7 +75,7 @@ module _ {V : Type 0} (o : Operations V) (laws : Laws o) (m : Meaning) (given do
         let (known, same) = accepted_in (ltb r (role_count s)) (record_of s r) v Fault.Role (search rules) in
         (grind (arith, nat_tests), same)
 
-    telling : Telling o m given done run i
+    telling : Tellings o m given done run i
     telling =
         let sound = run.sound i within in
         let book = books o m given done run i within in
@@ -113,8 +113,8 @@ module _ {V : Type 0} (o : Operations V) (laws : Laws o) (m : Meaning) (given do
       }
 
 module _ {V : Type 0} (o : Operations V) (laws : Laws o) where
-  pub asks_law : AsksLaw o
-  asks_law = questions o laws
+  pub questions_law : QuestionsLaw o
+  questions_law = questions o laws
 
   pub tellings_law : TellingsLaw o
   tellings_law = telling o laws

@@ -7,9 +7,9 @@
 --   Rests            behind call j and up to moment k, no put and no colour is accepted
 --   Finds            call j finds the coarsest table: a settle, or a step that says stable
 --   Questions        each row of a look has the network's answer for each node, each row of an ask for each node's role
---   Telling          what is told from moment i on, until the table is altered, is told of one table
+--   Tellings         what is told from moment i on, until the table is altered, is told of one table
 --   Settles          once it is found, the table is the coarsest of the book of the moment, until a put or a colour is accepted
---   AsksLaw, TellingsLaw, SettlesLaw    so it is in every run
+--   QuestionsLaw, TellingsLaw, SettlesLaw    so it is in every run
 use Rattle.std.specs.Borrow.{Bor}
 use Rattle.std.specs.Prelude.{◌≡◌, ◌⊎◌, ℕ, ◌+◌, ◌<◌, ◌≤◌, Bool, true, false, List, length, Ok}
 use Rattle.network.specs.Meaning.{Meaning}
@@ -77,7 +77,7 @@ module _ {V : Type 0} (o : Operations V) where
           → answer_start q.now (role_count (then k)) (length e.area.now) ≡ Ok start
           → (d.reply ≡ Reply.Ask (Ok start)) × NodesAnswered o (book k).network (book k).colours q.now (role (then k)) (role_count (then k)) start d.area.now
 
-    pub record Telling (i : ℕ) : Type 0 where
+    pub record Tellings (i : ℕ) : Type 0 where
       -- how many roles there are, and how many were split: roles minus starting classes
       pub count : (c : ℕ) → Told given done i Call.Roles (Reply.Roles c) → c ≡ role_count (then i)
       pub splits : (k : ℕ) → Told given done i Call.Splits (Reply.Splits k) → k + roles (book i).colours (book i).network.nodes ≡ role_count (then i)
@@ -92,11 +92,11 @@ module _ {V : Type 0} (o : Operations V) where
       -- and it is the computed one: the head of a node's role is the node's entry there
       pub computed : (x : ℕ) → x < (book k).network.nodes → (then k).head (role (then k) x) ≡ table_of (coarsest_table o (book k).network (book k).colours) x
 
-  abbrev pub AsksLaw : Type 0
-  AsksLaw = (m : Meaning) (given done : List Exchange) (run : Run o m given done) → Questions m given done run
+  abbrev pub QuestionsLaw : Type 0
+  QuestionsLaw = (m : Meaning) (given done : List Exchange) (run : Run o m given done) → Questions m given done run
 
   abbrev pub TellingsLaw : Type 0
-  TellingsLaw = (m : Meaning) (given done : List Exchange) (run : Run o m given done) (i : ℕ) → i ≤ length given → Telling m given done run i
+  TellingsLaw = (m : Meaning) (given done : List Exchange) (run : Run o m given done) (i : ℕ) → i ≤ length given → Tellings m given done run i
 
   abbrev pub SettlesLaw : Type 0
   SettlesLaw = (m : Meaning) (given done : List Exchange) (run : Run o m given done) (j k : ℕ) → j < k → k ≤ length given → Finds given done j → Rests given done j k → Settles m given done run k

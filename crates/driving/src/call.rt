@@ -9,7 +9,7 @@ use session::faults::Fault as SessionFault;
 use session::role::Role;
 use session::step::Step;
 
-// A call, with its arguments.
+/// A call, with its arguments.
 #[derive(Clone, Copy)]
 pub enum Call<'a> {
     Put(usize, usize, u8),
@@ -25,7 +25,7 @@ pub enum Call<'a> {
     Role(usize),
 }
 
-// What a call replies.
+/// What a call replies.
 #[derive(Clone, Copy, PartialEq, Eq, Debug)]
 pub enum Reply {
     Put(Result<(), NetworkFault>),
@@ -39,22 +39,22 @@ pub enum Reply {
     Splits(usize),
     RoleOf(Result<usize, SessionFault>),
     Role(Result<Role, SessionFault>),
-    // A session in this state does not take the call: it was not given it.
+    /// A session in this state does not take the call: it was not given it.
     NotTaken,
 }
 
-// A call, the area that it is lent, and its reply.
+/// A call, the area that it is lent, and its reply.
 #[derive(Drop)]
 pub struct Exchange<'q, 'a> {
     pub call: Call<'q>,
-    // Where look and ask write. Every other call leaves it as it is.
+    /// Where look and ask write. Every other call leaves it as it is.
     pub area: &'a mut [u8],
-    // What stood here before the call was given does not count.
+    /// What stood here before the call was given does not count.
     pub reply: Reply,
 }
 
 impl<'q, 'a> Exchange<'q, 'a> {
-    // The call, not yet given.
+    /// The call, not yet given.
     pub fn of(call: Call<'q>, area: &'a mut [u8]) -> Exchange<'q, 'a>
         ensures call { result.call ≡ call.entry }
         ensures area { result.area.now ≡ area.old }

@@ -2,7 +2,7 @@
 ghost use Rattle.equivalence.specs.Levels.{LevelsCoarsest};
 ghost use Rattle.session.specs.SettledSessions.{settled_state};
 ghost use Rattle.driving.specs.Courses.{last_book};
-ghost use Rattle.driving.specs.Laws.{AsksLaw, SettlesLaw, TellingsLaw};
+ghost use Rattle.driving.specs.Laws.{QuestionsLaw, SettlesLaw, TellingsLaw};
 ghost use Rattle.driving.specs.Promise.{Answers, Coarse, Driven, KeepsBook};
 ghost use Rattle.driving.specs.Runs.{calls_of};
 
@@ -13,8 +13,8 @@ use network::interface::Editable;
 use session::open::Open;
 use session::settled::Settled;
 
-// Makes a session, gives it each call that its state takes, in order, and settles it.
-// Each exchange then has the reply to its call, and its area holds what look or ask left there.
+/// Makes a session, gives it each call that its state takes, in order, and settles it.
+/// Each exchange then has the reply to its call, and its area holds what look or ask left there.
 pub fn drive<N: Editable, M: Measure>(
     network: N,
     measure: M,
@@ -31,7 +31,7 @@ pub fn drive<N: Editable, M: Measure>(
     ensures levels { LevelsCoarsest M.Measure.ops }
 
     // Of every run, and so of this one.
-    ensures asks { AsksLaw M.Measure.ops }
+    ensures questions { QuestionsLaw M.Measure.ops }
     ensures tellings { TellingsLaw M.Measure.ops }
     ensures settles { SettlesLaw M.Measure.ops }
 {

@@ -70,7 +70,7 @@ fn call_settled<N: Editable, M: Measure>(
 }
 
 impl<N: Editable, M: Measure> Session<N, M> {
-    // Gives the session the call, where it takes it.
+    /// Gives the session the call, where it takes it.
     pub fn call(self, call: Call<'_>, area: &mut [u8]) -> (Session<N, M>, Reply)
         ensures course { course_in result.0 ≡ course_after (course_in self) call.entry }
         ensures turn { let s = state_in self in let t = state_in result.0 in
@@ -83,7 +83,7 @@ impl<N: Editable, M: Measure> Session<N, M> {
         }
     }
 
-    // The session settled, with the same ties and colours. One that is settled stays as it is.
+    /// The session settled, with the same ties and colours. One that is settled stays as it is.
     pub fn settle(self) -> Settled<N, M>
         ensures ended { let s = state_in self in
             is_settled self ≡ false → Ended M.Measure.ops s (settled_state result) }

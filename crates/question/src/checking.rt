@@ -25,7 +25,7 @@ fn check_lines(question: &[Line]) -> Result<(), Fault>
     Ok(())
 }
 
-// Where the last row starts, in an area of so many bytes with a row of this width for each line.
+/// Where the last row starts, in an area of so many bytes with a row of this width for each line.
 #[tactic(auto, using(crate::proofs::ChecksLaw::checks_law))]
 pub fn check(question: &[Line], width: usize, size: usize) -> Result<usize, Fault>
     ensures answer { result ≡ answer_start question.now width size }

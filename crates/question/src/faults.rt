@@ -6,16 +6,16 @@ use network::faults::Layer;
 use std::error::Error;
 use std::fmt;
 
-// Why a question is refused.
+/// Why a question is refused.
 #[derive(Clone, Copy, PartialEq, Eq, Debug)]
 pub enum Fault {
-    // There are not 1 to 32 lines.
+    /// There are not 1 to 32 lines.
     Lines,
-    // The code of this line is unknown.
+    /// The code of this line is unknown.
     Code(usize),
-    // This line names a line that is not earlier.
+    /// This line names a line that is not earlier.
     Later(usize),
-    // The handed area has not a byte for each line and place.
+    /// The handed area has not a byte for each line and place.
     Area,
 }
 
@@ -37,7 +37,7 @@ impl Fault {
         Layer::Question
     }
 
-    // The line that is refused, where it is one.
+    /// The line that is refused, where it is one.
     pub fn line(self) -> Option<usize>
         ensures { result ≡ line_of self }
     {

@@ -3,32 +3,33 @@ ghost use Rattle.std.specs.Prelude.{◌≡◌, Some};
 ghost use Rattle.question.specs.Lines.{claim, earlier};
 ghost use Rattle.question.specs.declared.line.Claim.{Claim};
 
-// As it is handed: a code, and the operands that a code can have. What its code has not is not read.
+/// As it is handed: a code, and the operands that a code can have. What its code has not is not
+/// read.
 #[derive(Clone, Copy, PartialEq, Eq, Debug, Default)]
 pub struct Line {
     pub code: u8,
-    // Lines that it names.
+    /// Lines that it names.
     pub k: usize,
     pub l: usize,
-    // A colour or a test.
+    /// A colour or a test.
     pub byte: u8,
 }
 
-// What a line says of a node.
+/// What a line says of a node.
 #[derive(Clone, Copy, PartialEq, Eq, Debug)]
 pub enum Claim {
-    // It has the colour.
+    /// It has the colour.
     Colour(u8),
-    // The line is false of it.
+    /// The line is false of it.
     Not(usize),
-    // Both lines are true of it.
+    /// Both lines are true of it.
     And(usize, usize),
-    // Its total toward the nodes that the line is true of holds the test.
+    /// Its total toward the nodes that the line is true of holds the test.
     Tied(usize, u8),
 }
 
 impl Line {
-    // The nodes of colour c. Operands that its code has not are 0.
+    /// The nodes of colour c. Operands that its code has not are 0.
     pub fn colour(c: u8) -> Line
         ensures line { result ≡ record { code = 0; k = 0; l = 0; byte = c } }
         ensures claim { claim result ≡ Some (Claim.Colour c) }
@@ -40,7 +41,7 @@ impl Line {
         }
     }
 
-    // The nodes that line k is false of.
+    /// The nodes that line k is false of.
     pub fn not(k: usize) -> Line
         ensures line { result ≡ record { code = 1; k = k; l = 0; byte = 0 } }
         ensures claim { claim result ≡ Some (Claim.Not k) }
@@ -52,7 +53,7 @@ impl Line {
         }
     }
 
-    // The nodes that lines k and l are true of.
+    /// The nodes that lines k and l are true of.
     pub fn and(k: usize, l: usize) -> Line
         ensures line { result ≡ record { code = 2; k = k; l = l; byte = 0 } }
         ensures claim { claim result ≡ Some (Claim.And k l) }
@@ -65,7 +66,7 @@ impl Line {
         }
     }
 
-    // The nodes whose total toward those of line k holds test t.
+    /// The nodes whose total toward those of line k holds test t.
     pub fn tied(k: usize, t: u8) -> Line
         ensures line { result ≡ record { code = 3; k = k; l = 0; byte = t } }
         ensures claim { claim result ≡ Some (Claim.Tied k t) }
@@ -78,7 +79,7 @@ impl Line {
         }
     }
 
-    // What the line claims, none where its code is unknown.
+    /// What the line claims, none where its code is unknown.
     pub fn claim(self) -> Option<Claim>
         ensures { result ≡ claim self }
     {

@@ -6,12 +6,12 @@ use network::faults::Layer;
 use std::error::Error;
 use std::fmt;
 
-// Why a session refuses.
+/// Why a session refuses.
 #[derive(Clone, Copy, PartialEq, Eq, Debug)]
 pub enum Fault {
-    // A node that is named is not below the number of nodes.
+    /// A node that is named is not below the number of nodes.
     Node = 3,
-    // A role that is named is not below the number of roles.
+    /// A role that is named is not below the number of roles.
     Role = 11,
 }
 

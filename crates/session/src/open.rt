@@ -18,7 +18,8 @@ mod answering;
 // Look, and ask for a settled session.
 mod looking;
 
-// Put alters ties, colour alters colours, and either brings the table back to the starting classes where it is accepted.
+/// Put alters ties, colour alters colours, and either brings the table back to the starting classes
+/// where it is accepted.
 #[derive(Drop)]
 pub struct Open<N: Editable, M: Measure> {
     network: N,
@@ -30,7 +31,7 @@ pub struct Open<N: Editable, M: Measure> {
 impl<N: Editable, M: Measure> Open<N, M> {
     ghost use Rattle.session.specs.OpenSessions.{state_of, parts_of};
 
-    // Every colour is 0.
+    /// Every colour is 0, and the table is at the starting classes.
     #[tactic(auto, using(crate::proofs::Keeping::sound_begun))]
     pub fn new(network: N, measure: M) -> Self
         ensures begun { Begun (N.Readable.meaning network) (λ _. 0) (state_of result) }
@@ -44,6 +45,8 @@ impl<N: Editable, M: Measure> Open<N, M> {
         }
     }
 
+    /// The tie byte from i to j becomes b, by the network's own put. Accepted, the table is back at
+    /// the starting classes, also where nothing is altered. Refused, all is as it was.
     #[tactic(auto, using(crate::proofs::Keeping::sound_begun))]
     pub fn put(&mut self, i: usize, j: usize, b: u8) -> Result<(), network::faults::Fault>
         ensures answer { result ≡ put_answer (state_of self.old).network i j b }
@@ -56,11 +59,14 @@ impl<N: Editable, M: Measure> Open<N, M> {
         Ok(())
     }
 
+    /// Node i becomes of colour c. Accepted, the table is back at the starting classes, also where
+    /// nothing is altered. Refused, all is as it was.
     #[tactic(auto, using(crate::proofs::Keeping::sound_begun, crate::proofs::Keeping::coloured))]
     pub fn colour(&mut self, i: usize, c: u8) -> Result<(), Fault>
         ensures answer { result ≡ colour_answer (state_of self.old).network.nodes i }
         ensures edited { let s = state_of self.old in
-            Edited result s.network (colours_after s.network.nodes s.colours i c) s (state_of self.new) }
+            let colours = colours_after s.network.nodes s.colours i c in
+            Edited result s.network colours s (state_of self.new) }
         ensures parts { parts_of self.new ≡ parts_of self.old }
     {
         if i >= self.table.nodes() {
@@ -70,7 +76,7 @@ impl<N: Editable, M: Measure> Open<N, M> {
         Ok(())
     }
 
-    // Ends the session.
+    /// Ends the session.
     pub fn into_parts(self) -> (N, M)
         ensures { result ≡ parts_of self }
     {

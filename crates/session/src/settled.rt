@@ -18,7 +18,7 @@ use network::interface::Editable;
 // Look and ask.
 mod asking;
 
-// The session, of which nothing can be altered until it is open again.
+/// The session, of which nothing can be altered until it is open again.
 #[derive(Drop)]
 pub struct Settled<N: Editable, M: Measure> {
     session: Open<N, M>,
@@ -28,7 +28,7 @@ pub struct Settled<N: Editable, M: Measure> {
 impl<N: Editable, M: Measure> Open<N, M> {
     ghost use Rattle.session.specs.SettledSessions.{settled_state, settled_parts};
 
-    // Splits roles until the table is regular: at most n - 1 splits, and one step more.
+    /// Splits roles until the table is regular: at most n - 1 splits, and one step more.
     pub fn settle(mut self) -> Settled<N, M>
         ensures ended { Ended M.Measure.ops (state_of self) (settled_state result) }
         ensures parts { settled_parts result ≡ parts_of self }
@@ -41,7 +41,7 @@ impl<N: Editable, M: Measure> Open<N, M> {
 impl<N: Editable, M: Measure> Settled<N, M> {
     ghost use Rattle.session.specs.SettledSessions.{settled_state, settled_parts};
 
-    // Table and count are kept.
+    /// Table and count are kept.
     pub fn reopen(self) -> Open<N, M>
         ensures state { state_of result ≡ settled_state self }
         ensures parts { parts_of result ≡ settled_parts self }
@@ -49,14 +49,14 @@ impl<N: Editable, M: Measure> Settled<N, M> {
         self.session
     }
 
-    // How many roles there are.
+    /// How many roles there are.
     pub fn roles(&self) -> usize
         ensures { result ≡ role_count (settled_state self.now) }
     {
         self.session.roles()
     }
 
-    // How many roles were split since the table was at the starting classes.
+    /// How many roles were split since the table was at the starting classes.
     pub fn splits(&self) -> usize
         ensures count { result ≡ (settled_state self.now).splits }
         ensures classes { let s = settled_state self.now in
@@ -65,7 +65,7 @@ impl<N: Editable, M: Measure> Settled<N, M> {
         self.session.splits()
     }
 
-    // The role of node x.
+    /// The role of node x, or 3.
     pub fn role_of(&self, x: usize) -> Result<usize, Fault>
         ensures answer { result ≡ role_answer (settled_state self.now) x }
         ensures below { IfOk result (λ r. r < role_count (settled_state self.now)) }
@@ -73,7 +73,7 @@ impl<N: Editable, M: Measure> Settled<N, M> {
         self.session.role_of(x)
     }
 
-    // The head and the size of role r.
+    /// The head and the size of role r, or 11.
     pub fn role(&self, r: usize) -> Result<Role, Fault>
         ensures answer { result ≡ record_answer (settled_state self.now) r }
         ensures described { let s = settled_state self.now in
@@ -82,7 +82,7 @@ impl<N: Editable, M: Measure> Settled<N, M> {
         self.session.role(r)
     }
 
-    // The role of each node, in order: the coarsest regular table.
+    /// The role of each node, in order: the coarsest regular table.
     pub fn table(&self) -> &[u8]
         ensures table { result.now ≡ (settled_state self.now).table }
         ensures sound { IsSound M.Measure.ops (settled_state self.now) }
@@ -92,6 +92,7 @@ impl<N: Editable, M: Measure> Settled<N, M> {
         self.session.table()
     }
 
+    /// The network, to be read.
     pub fn network(&self) -> &N
         ensures { result.now ≡ (settled_parts self.now).0 }
     {

@@ -1,9 +1,10 @@
-// What a step does.
+/// What a step does.
 #[derive(Clone, Copy, PartialEq, Eq, Debug)]
 pub enum Step {
-    // The table is regular.
+    /// The table is regular.
     Stable,
-    // Those that stay in role `part` have one total toward role `toward`; the others, which have it not, are now role `fresh`.
+    /// Those that stay in role `part` have one total toward role `toward`; the others, which have
+    /// it not, are now role `fresh`.
     Split {
         part: usize,
         toward: usize,

@@ -14,7 +14,8 @@ mod starting;
 // One role in two.
 mod splitting;
 
-// colours[x] is the colour of node x, role_of[x] its role; roles[r] has the lowest node of role r and its size.
+// colours[x] is the colour of node x, role_of[x] its role; roles[r] has the lowest node of role r
+// and its size.
 #[derive(Drop)]
 pub(crate) struct Table {
     colours: [u8; 128],

@@ -46,7 +46,8 @@ impl<N: Editable, M: Measure> Open<N, M> {
         nodes
     }
 
-    // Whether the claim is true at place p, by the rows before it. Where it is of ties, `toward` lists the nodes of the line that it names.
+    // Whether the claim is true at place p, by the rows before it. Where it is of ties, `toward`
+    // lists the nodes of the line that it names.
     fn holds<P: Places>(
         &self,
         places: &P,

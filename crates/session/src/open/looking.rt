@@ -11,7 +11,8 @@ use question::faults::Fault;
 use question::line::Line;
 
 impl<N: Editable, M: Measure> Open<N, M> {
-    // Asks each node, on the whole network: a row of n bytes for each line. Tells where the last row starts.
+    /// Asks each node, on the whole network: a row of n bytes for each line. Tells where the last
+    /// row starts.
     pub fn look(&self, question: &[Line], area: &mut [u8]) -> Result<usize, Fault>
         ensures start { result ≡ look_answer (state_of self.now) question.now area.old }
         ensures area { let s = state_of self.now in
@@ -20,7 +21,8 @@ impl<N: Editable, M: Measure> Open<N, M> {
         self.answer(&EachNode::of(self.table.nodes()), question, area)
     }
 
-    // Asks each role, with its head in place of its nodes. Only a settled session's roles have the network's answer, so its `ask` alone calls this.
+    // Asks each role, with its head in place of its nodes. Only a settled session's roles have the
+    // network's answer, so its `ask` alone calls this.
     #[tactic(auto, using(crate::proofs::Keeping::numbered))]
     pub(crate) fn answer_by_roles(&self, question: &[Line], area: &mut [u8]) -> Result<usize, Fault>
         ensures start { result ≡ ask_answer (state_of self.now) question.now area.old }

@@ -1,5 +1,7 @@
-// The search for a split. Partition refinement by roles of the table itself, without the smaller-half rule: a measure has no subtraction.
-// A step reads each ordered pair of nodes at most four times, and the bytes of the table a few times for each pair of roles.
+// The search for a split. Partition refinement by roles of the table itself, without the
+// smaller-half rule: a measure has no subtraction.
+// A step reads each ordered pair of nodes at most four times, and the bytes of the table a few
+// times for each pair of roles.
 ghost use Rattle.std.specs.Prelude.{◌≡◌, ◌↔◌, ℕ, true, false, ◌<◌, MatchOption};
 ghost use Rattle.arrayvec.specs.ArrayVec.{array_vec_len};
 ghost use Rattle.equivalence.specs.Regular.{Balanced, Regular};
@@ -47,7 +49,8 @@ impl<N: Editable, M: Measure> Open<N, M> {
             result ≡ false → Even M.Measure.ops s.network (role s) r (members (role s) c) }
         ensures kept { result ≡ false → self.new ≡ self.old }
         ensures split { let fresh = array_vec_len self.old.table.roles in
-            result ≡ true → InTwo M.Measure.ops (state_of self.old) (state_of self.new) r c fresh }
+            result ≡ true
+            → InTwo M.Measure.ops (state_of self.old) (state_of self.new) r c fresh }
         ensures parts { parts_of self.new ≡ parts_of self.old }
     {
         let leaving = self.leaving(r, c);
@@ -60,7 +63,8 @@ impl<N: Editable, M: Measure> Open<N, M> {
         }
     }
 
-    // Splits a role by totals toward role c, where one has nodes that differ in it. Gives the role that was split.
+    // Splits a role by totals toward role c, where one has nodes that differ in it. Gives the role
+    // that was split.
     fn split_toward(&mut self, c: usize) -> Option<usize>
         requires { c < array_vec_len self.old.table.roles }
         ensures search { let s = state_of self.old in
@@ -79,7 +83,7 @@ impl<N: Editable, M: Measure> Open<N, M> {
         None
     }
 
-    // Splits one role in two, where the table is not regular.
+    /// Splits one role in two, where the table is not regular.
     pub fn step(&mut self) -> Step
         ensures stable { let s = state_of self.old in
             (result ≡ Step.Stable) ↔ Regular M.Measure.ops s.network (role s) }

@@ -12,7 +12,7 @@ use measure::interface::Measure;
 use network::interface::Editable;
 
 impl<N: Editable, M: Measure> Open<N, M> {
-    // How many roles there are.
+    /// How many roles there are.
     #[tactic(auto, using(crate::proofs::Keeping::numbered))]
     pub fn roles(&self) -> usize
         ensures { result ≡ role_count (state_of self.now) }
@@ -20,15 +20,16 @@ impl<N: Editable, M: Measure> Open<N, M> {
         self.table.count()
     }
 
-    // How many roles were split since the table was at the starting classes.
+    /// How many roles were split since the table was at the starting classes.
     pub fn splits(&self) -> usize
         ensures count { result ≡ (state_of self.now).splits }
-        ensures classes { result + class_count (state_of self.now) ≡ role_count (state_of self.now) }
+        ensures classes { let s = state_of self.now in
+            result + class_count s ≡ role_count s }
     {
         self.table.splits()
     }
 
-    // The role of node x.
+    /// The role of node x, or 3.
     pub fn role_of(&self, x: usize) -> Result<usize, Fault>
         ensures answer { result ≡ role_answer (state_of self.now) x }
         ensures below { IfOk result (λ r. r < role_count (state_of self.now)) }
@@ -39,7 +40,7 @@ impl<N: Editable, M: Measure> Open<N, M> {
         Ok(self.table.role_of(x))
     }
 
-    // The head and the size of role r.
+    /// The head and the size of role r, or 11.
     #[tactic(auto, using(crate::proofs::Keeping::numbered, crate::proofs::Keeping::recorded))]
     pub fn role(&self, r: usize) -> Result<Role, Fault>
         ensures answer { result ≡ record_answer (state_of self.now) r }
@@ -52,7 +53,8 @@ impl<N: Editable, M: Measure> Open<N, M> {
         Ok(self.table.role(r))
     }
 
-    // The role of each node, in order. Within the starting classes, and coarser than every regular table within them.
+    /// The role of each node, in order. Within the starting classes, and coarser than every regular
+    /// table within them.
     pub fn table(&self) -> &[u8]
         ensures table { result.now ≡ (state_of self.now).table }
         ensures sound { IsSound M.Measure.ops (state_of self.now) }
@@ -60,6 +62,7 @@ impl<N: Editable, M: Measure> Open<N, M> {
         self.table.roles_of()
     }
 
+    /// The network, to be read.
     pub fn network(&self) -> &N
         ensures { result.now ≡ (parts_of self.now).0 }
     {

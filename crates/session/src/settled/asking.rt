@@ -10,7 +10,7 @@ use question::faults::Fault;
 use question::line::Line;
 
 impl<N: Editable, M: Measure> Settled<N, M> {
-    // Asks each node, on the whole network, as an open session does.
+    /// Asks each node, on the whole network, as an open session does.
     pub fn look(&self, question: &[Line], area: &mut [u8]) -> Result<usize, Fault>
         ensures start { result ≡ look_answer (settled_state self.now) question.now area.old }
         ensures area { let s = settled_state self.now in
@@ -19,8 +19,9 @@ impl<N: Editable, M: Measure> Settled<N, M> {
         self.session.look(question, area)
     }
 
-    // Asks each role, with its head in place of its nodes: a row for each line, with a byte for each role. Tells where the last row starts.
-    // In each row a node's role has the answer that `look` has for the node.
+    /// Asks each role, with its head in place of its nodes: a row for each line, with a byte for
+    /// each role. Tells where the last row starts.
+    /// In each row a node's role has the answer that `look` has for the node.
     pub fn ask(&self, question: &[Line], area: &mut [u8]) -> Result<usize, Fault>
         ensures start { result ≡ ask_answer (settled_state self.now) question.now area.old }
         ensures area { let s = settled_state self.now in

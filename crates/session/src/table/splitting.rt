@@ -52,7 +52,8 @@ impl Table {
         (0..self.role_of.len()).find(|&x| leaves[x])
     }
 
-    // The nodes that leave their role are the next role. Node x is the lowest of them, and all are of its role.
+    // The nodes that leave their role are the next role. Node x is the lowest of them, and all are
+    // of its role.
     pub(crate) fn split(&mut self, x: usize, leaves: &[bool; 128])
         requires node { x < length self.old.role_of.items }
         requires later { head_at self.old.roles.items (table_of self.old.role_of.items x) < x }

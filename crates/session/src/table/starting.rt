@@ -59,7 +59,8 @@ impl Table {
         (0..self.roles.len()).find(|&r| self.colours[self.roles[r].head] == colour)
     }
 
-    // The table of n nodes in which those of equal colour are together. Each node is held against the heads so far.
+    // The table of n nodes in which those of equal colour are together. Each node is held against
+    // the heads so far.
     fn starting(n: usize, colours: [u8; 128]) -> Table
         requires { n ≤ 128 }
         ensures colours { result.colours ≡ colours }
