@@ -10,3 +10,5 @@ pub mod state;
 pub mod drive;
 // The small networks with known tables.
 pub mod known;
+#[cfg(test)]
+mod tests;
