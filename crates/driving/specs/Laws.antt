@@ -6,19 +6,21 @@
 --   Told             from moment i on, while the table stays as it is, the call is replied to so
 --   Rests            behind call j and up to moment k, no put and no colour is accepted
 --   Finds            call j finds the coarsest table: a settle, or a step that says stable
---   Questions        each row of a look has the network's answer for each node, each row of an ask for each node's role
+--   Questions        each row of a look has the network's answer for each node, and each row of an ask has it at each node's role
 --   Tellings         what is told from moment i on, until the table is altered, is told of one table
---   Settles          once it is found, the table is the coarsest of the book of the moment, until a put or a colour is accepted
+--   Settles          the table of moment k is the coarsest of the book of that moment, and what is told then is told of it
 --   QuestionsLaw, TellingsLaw, SettlesLaw    so it is in every run
 use Rattle.std.specs.Borrow.{Bor}
-use Rattle.std.specs.Prelude.{◌≡◌, ◌⊎◌, ℕ, ◌+◌, ◌<◌, ◌≤◌, Bool, true, false, List, length, Ok}
+use Rattle.std.specs.Prelude.{◌≡◌, ◌⊎◌, ℕ, ◌+◌, ◌<◌, ◌≤◌, Bool, true, false, cond, List, length, slice_index, Ok}
 use Rattle.network.specs.Meaning.{Meaning}
 use Rattle.measure.specs.Measures.{Operations}
 use Rattle.equivalence.specs.Coarsest.{Coarsest, roles}
+use Rattle.equivalence.specs.Regular.{Table}
 use Rattle.equivalence.specs.Levels.{coarsest_table}
 use Rattle.equivalence.specs.Vetted.{table_of}
 use Rattle.question.specs.Areas.{NodesAnswered}
 use Rattle.question.specs.Checks.{answer_start}
+use Rattle.question.specs.Truth.{answer, each_node}
 use Rattle.question.specs.declared.line.Line.{Line}
 use Rattle.session.specs.Roles.{Described}
 use Rattle.session.specs.States.{State, role, role_count}
@@ -76,6 +78,11 @@ module _ {V : Type 0} (o : Operations V) where
           → At given k e → At done k d → e.call ≡ Call.Ask q → (course_before m given k).settled ≡ true
           → answer_start q.now (role_count (then k)) (length e.area.now) ≡ Ok start
           → (d.reply ≡ Reply.Ask (Ok start)) × NodesAnswered o (book k).network (book k).colours q.now (role (then k)) (role_count (then k)) start d.area.now
+      -- so an ask that starts here has in its last row, at the role that a node is told to have, the answer for the node
+      pub told : (i k : ℕ) (e d : Exchange) (q : Bor (List Line)) (start x r : ℕ)
+          → Still given done i k → At given k e → At done k d → e.call ≡ Call.Ask q → d.reply ≡ Reply.Ask (Ok start)
+          → Told given done i (Call.RoleOf x) (Reply.RoleOf (Ok r))
+          → slice_index d.area.now (start + r) ≡ cond (answer o (book k).network (book k).colours each_node q.now x) 1 0
 
     pub record Tellings (i : ℕ) : Type 0 where
       -- how many roles there are, and how many were split: roles minus starting classes
@@ -87,10 +94,16 @@ module _ {V : Type 0} (o : Operations V) where
       pub same : (r : ℕ) (v w : role_record.Role) → Told given done i (Call.Role r) (Reply.Role (Ok v)) → Told given done i (Call.Role r) (Reply.Role (Ok w)) → v ≡ w
       pub described : (r : ℕ) (v : role_record.Role) → Told given done i (Call.Role r) (Reply.Role (Ok v)) → Described (book i).network.nodes (role (then i)) r v
 
+    -- the coarsest table of the book of a moment, as levels compute it: each node is named by the lowest of its role
+    abbrev computed : ℕ → Table
+    computed k = table_of (coarsest_table o (book k).network (book k).colours)
+
     pub record Settles (k : ℕ) : Type 0 where
       pub coarsest : Coarsest o (book k).network (book k).colours (role (then k))
-      -- and it is the computed one: the head of a node's role is the node's entry there
-      pub computed : (x : ℕ) → x < (book k).network.nodes → (then k).head (role (then k) x) ≡ table_of (coarsest_table o (book k).network (book k).colours) x
+      pub heads : (x : ℕ) → x < (book k).network.nodes → (then k).head (role (then k) x) ≡ computed k x
+      -- so what is told from then on, until the table is altered, is told of the computed table
+      pub count : (c : ℕ) → Told given done k Call.Roles (Reply.Roles c) → c ≡ roles (computed k) (book k).network.nodes
+      pub head : (x r : ℕ) (v : role_record.Role) → Told given done k (Call.RoleOf x) (Reply.RoleOf (Ok r)) → Told given done k (Call.Role r) (Reply.Role (Ok v)) → v.head ≡ computed k x
 
   abbrev pub QuestionsLaw : Type 0
   QuestionsLaw = (m : Meaning) (given done : List Exchange) (run : Run o m given done) → Questions m given done run
