@@ -9,7 +9,7 @@
 --   Questions        each row of a look has the network's answer for each node, and each row of an ask has it at each node's role
 --   Tellings         what is told from moment i on, until the table is altered, is told of one table
 --   Settles          the table of moment k is the coarsest of the book of that moment, and what is told then is told of it
---   QuestionsLaw, TellingsLaw, SettlesLaw    so it is in every run
+--   QuestionsLaw, TellingsLaw, SettlesLaw    so it is in every run; the last once the coarsest table is found, until a put or a colour is accepted
 use Rattle.std.specs.Borrow.{Bor}
 use Rattle.std.specs.Prelude.{◌≡◌, ◌⊎◌, ℕ, ◌+◌, ◌<◌, ◌≤◌, Bool, true, false, cond, List, length, slice_index, Ok}
 use Rattle.network.specs.Meaning.{Meaning}
