@@ -1,7 +1,7 @@
 -- What the nodes that leave a role do to the table. Assumes nothing.
-use Rattle.std.proofs.Common.{◌≡◌, ℕ, ◌+◌, ◌<◌, ◌≤◌, Bool, true, false, not, List, length, sym, refl, ap, ◌∙◌, arith}
+use Rattle.std.proofs.Common.{◌≡◌, ℕ, ◌+◌, ◌<◌, ◌≤◌, Bool, true, false, not, List, length, sym, refl, ap, inl, inr, ◌∙◌, arith}
 use Rattle.std.proofs.lemmas.Bool.Decides.{nat_tests}
-use Rattle.std.proofs.lemmas.Bool.{eq-eqb}
+use Rattle.std.proofs.lemmas.Bool.{cases_eq, cases_lt, eq-eqb}
 use Rattle.network.proofs.Counting.{count_below_one}
 use Rattle.network.specs.Meaning.{Meaning}
 use Rattle.measure.specs.Measures.{Operations, Laws}
@@ -63,6 +63,45 @@ module _ {V : Type 0} (o : Operations V) (laws : Laws o) (m : Meaning) (old : Ro
         (λ k l e. refl)
         (λ k l. grind (arith, nat_tests, moved k (inside k l), flagged k l))
 
+    -- the head of role r stays
+    head_stays : role_in new head ≡ r
+    head_stays =
+        let told = old.kept.described r part in
+        let same : o.same (total o m head toward) (total o m head toward) ≡ true = (laws.sameness (total o m head toward) (total o m head toward)).1 refl in
+        let stays : leaves head ≡ false = grind (arith, nat_tests, flagged head (omega (arith, fits, told.node)), same) in
+        moved head told.node ∙ grind (arith, nat_tests, stays, told.mate)
+
+    heads_stay : (q : ℕ) → q < fresh → role_in new (head_at old.roles.items q) ≡ q
+    heads_stay q l =
+        let told = old.kept.described q l in
+        elim (cases_eq q r) [
+          | inl same ↦ rw same head_stays
+          | inr other ↦ split_leaving.others (head_at old.roles.items q) (omega (arith, fits, told.node)) (λ e. other (sym told.mate ∙ e)) ∙ told.mate
+        ]
+
+    heads_same : length new.role_of.items ≡ length old.role_of.items → fresh < length new.roles.items → (q : ℕ) → q < fresh → head_at new.roles.items q ≡ head_at old.roles.items q
+    heads_same still more q l =
+        let a = new.kept.described q (omega arith) in
+        let b = old.kept.described q l in
+        let h = head_at old.roles.items q in
+        let k = head_at new.roles.items q in
+        elim (cases_lt k h) [
+          | inl under ↦
+              elim (cases_eq (role_in old k) r) [
+                | inl of_r ↦
+                    elim (split_leaving.parts k (omega (arith, fits, b.node, under)) of_r) [
+                      | inl is ↦ absurd (b.lowest k under (of_r ∙ sym is ∙ a.mate))
+                      | inr is ↦ absurd (omega (arith, is, a.mate, l))
+                    ]
+                | inr other ↦ absurd (b.lowest k under (sym (split_leaving.others k (omega (arith, fits, b.node, under)) other) ∙ a.mate))
+              ]
+          | inr past ↦
+              elim (cases_lt h k) [
+                | inl above ↦ absurd (a.lowest h above (heads_stay q l))
+                | inr same ↦ omega (arith, past, same)
+              ]
+        ]
+
     pub two_leaving : length new.role_of.items ≡ length old.role_of.items → length new.roles.items ≡ fresh + 1 → new.splits ≡ old.splits + 1 → new.colours ≡ old.colours → InTwo o (state_with m old) (state_with m new) r c fresh
     two_leaving still one_more count same =
         record {
@@ -72,6 +111,7 @@ module _ {V : Type 0} (o : Operations V) (laws : Laws o) (m : Meaning) (old : Ro
           toward = omega (arith, numbered old m.nodes fits);
           next = numbered old m.nodes fits;
           split = split_leaving;
+          heads = λ q l. heads_same still (omega (arith, one_more)) q (omega (arith, l, numbered old m.nodes fits));
           more = omega (arith, numbered old m.nodes fits, numbered new m.nodes (still ∙ fits), one_more);
           count = count;
         }

@@ -1,11 +1,12 @@
 -- Node by node, the table stays at the starting classes of the nodes so far. Assumes nothing.
 use Rattle.std.proofs.Common.{◌≡◌, ℕ, ◌+◌, ◌<◌, List, [], ◌∷◌, ◌++◌, length, sym, ap, ◌∙◌, inl, inr, arith}
 use Rattle.std.proofs.lemmas.Bool.{cases_eq}
+use Rattle.std.proofs.lemmas.List.{length_push}
 use Rattle.equivalence.specs.Regular.{Table}
 use Rattle.equivalence.specs.Coarsest.{Refines}
 use Rattle.session.specs.Sessions.{Starting}
 use Rattle.equivalence.specs.Vetted.{table_of}
-use Rattle.session.specs.Roles.{Kept, head_at}
+use Rattle.session.specs.Roles.{Kept, Ordered, head_at, record_at}
 use Rattle.session.specs.declared.role.Role.{Role}
 use Rattle.session.proofs.Records.{Puts}
 use Rattle.session.proofs.Writes.{puts_pushed}
@@ -63,3 +64,29 @@ module _ (classes : Table) (role_of : List ℕ) (roles : List Role) (kept : Kept
       let head = kept.described r known in
       absurd (none r known (start.0 (head_at roles r) k head.node l head.mate ∙ e)))
       start
+
+-- a head is as it was
+pub ordered_joined : (n k : ℕ) (head next : ℕ → ℕ) → k ≡ n → ((q : ℕ) → next q ≡ head q) → Ordered n head → Ordered k next
+ordered_joined n k head next count same ordered q r l known = omega (arith, same q, same r, ordered q r l (omega (arith, known, count)))
+
+-- the next head is above all heads
+module _ (roles : List Role) (x : ℕ) (below : (q : ℕ) → q < length roles → head_at roles q < x) (ordered : Ordered (length roles) (head_at roles)) where
+  abbrev after : List Role
+  after = roles ++ record { head = x; size = 1 } ∷ []
+
+  pushed : Puts (record_at roles) (record_at after) (length roles) (record { head = x; size = 1 })
+  pushed = puts_pushed roles (record { head = x; size = 1 }) (record { head = 0; size = 0 })
+
+  head_off : (q : ℕ) → (q ≡ length roles → ⊥) → head_at after q ≡ head_at roles q
+  head_off q ne = ap (λ (v : Role). v.head) (pushed.off q ne)
+
+  pub ordered_begun : Ordered (length after) (head_at after)
+  ordered_begun q r l known =
+      let long : length after ≡ length roles + 1 = length_push roles (record { head = x; size = 1 }) in
+      let old_q = head_off q (λ e. omega (arith, e, long, known, l)) in
+      elim (cases_eq r (length roles)) [
+        | inl last ↦
+            let new_r : head_at after r ≡ x = ap (head_at after) last ∙ ap (λ (v : Role). v.head) pushed.here in
+            omega (arith, old_q, new_r, below q (omega (arith, l, last)))
+        | inr other ↦ omega (arith, old_q, head_off r other, ordered q r l (omega (arith, known, long, other)))
+      ]

@@ -4,6 +4,7 @@
 --   head_at      the head that the record has
 --   Described    the record of a role: its head is its lowest node, so the role is not empty, and its size the number of its nodes
 --   Recorded     roles are numbered from 0, each with its record; there are at most 128 nodes, and no more roles than nodes
+--   Ordered      so many roles are numbered in the order of their heads
 --   Kept         the same, of the roles of the nodes and the records of the roles
 use Rattle.std.specs.Prelude.{◌≡◌, ℕ, ◌<◌, ◌≤◌, List, ◌≢◌, length, slice_index_or}
 use Rattle.network.specs.Meaning.{count_below}
@@ -29,6 +30,9 @@ pub record Recorded (nodes : ℕ) (role : Table) (count : ℕ) (records : ℕ �
   pub packed : count ≤ nodes
   pub ranged : (x : ℕ) → x < nodes → role x < count
   pub described : (r : ℕ) → r < count → Described nodes role r (records r)
+
+abbrev pub Ordered : ℕ → (ℕ → ℕ) → Type 0
+Ordered count head = (q r : ℕ) → q < r → r < count → head q < head r
 
 abbrev pub Kept : List ℕ → List Role → Type 0
 Kept role_of roles = Recorded (length role_of) (table_of role_of) (length roles) (record_at roles)

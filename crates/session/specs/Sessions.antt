@@ -1,16 +1,17 @@
 -- What a session starts from, what a colour answers and leaves, and what a session settles into. Assumes nothing.
 --
 --   Starting         the table is at the starting classes: nodes share a role exactly where they share a class
---   Begun            a state of these ties and colours at their starting classes, with no role split
+--   Begun            a state of these ties and colours at their starting classes, numbered in the order of their lowest nodes, with no role split
 --   colour_answer    accepted, or 3 where there is no such node
 --   colours_after    the colours after a colour, refused or not
 --   Edited           the state after a put or a colour: begun anew where it is accepted, as it was where it is refused
---   Ended            the state after a settle: the coarsest table of the same ties and colours, with its splits counted
-use Rattle.std.specs.Prelude.{◌≡◌, ℕ, ◌+◌, cond, ◌&&◌, ◌==◌, nat_lt, Result, Ok, Err, OnOk, OnErr}
+--   Ended            the state after a settle: the coarsest table of the same ties and colours, with its splits counted; the old roles keep their numbers
+use Rattle.std.specs.Prelude.{◌≡◌, ℕ, ◌+◌, ◌<◌, ◌≤◌, cond, ◌&&◌, ◌==◌, nat_lt, Result, Ok, Err, OnOk, OnErr}
 use Rattle.network.specs.Meaning.{Meaning}
 use Rattle.measure.specs.Measures.{Operations}
 use Rattle.equivalence.specs.Regular.{Table}
 use Rattle.equivalence.specs.Coarsest.{Coarsest, Refines}
+use Rattle.session.specs.Roles.{Ordered}
 use Rattle.session.specs.States.{State, role, role_count, class_count}
 use Rattle.session.specs.declared.faults.Fault.{Fault}
 
@@ -21,6 +22,8 @@ pub record Begun (m : Meaning) (classes : Table) (s : State) : Type 0 where
   pub network : s.network ≡ m
   pub colours : s.colours ≡ classes
   pub start : Starting m.nodes classes (role s)
+  -- roles are numbered in the order of their heads
+  pub ordered : Ordered (role_count s) s.head
   pub splits : s.splits ≡ 0
 
 abbrev pub colour_answer : ℕ → ℕ → Result (Unit {0}) Fault
@@ -41,3 +44,6 @@ pub record Ended {V : Type 0} (o : Operations V) (old new : State) : Type 0 wher
   pub colours : new.colours ≡ old.colours
   pub coarsest : Coarsest o new.network new.colours (role new)
   pub splits : new.splits + class_count new ≡ role_count new
+  -- each role keeps its number and its head
+  pub more : role_count old ≤ role_count new
+  pub heads : (q : ℕ) → q < role_count old → new.head q ≡ old.head q

@@ -17,6 +17,8 @@ pub record InTwo {V : Type 0} (o : Operations V) (old new : State) (r c fresh : 
   pub toward : c < role_count old
   pub next : fresh ≡ role_count old
   pub split : splitting.Split o old.network (role old) (role new) r c fresh
+  -- each role keeps its number, and its head stays in it
+  pub heads : (q : ℕ) → q < role_count old → new.head q ≡ old.head q
   pub more : role_count new ≡ role_count old + 1
   pub count : new.splits ≡ old.splits + 1
 

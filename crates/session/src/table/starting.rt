@@ -2,7 +2,7 @@
 ghost use Rattle.std.specs.Prelude.{◌≡◌, ◌≢◌, ℕ, ◌<◌, ◌≤◌, [], ◌∷◌, ◌++◌, length, slice_set, MatchOption};
 ghost use Rattle.arrayvec.specs.ArrayVec.{array_vec_len};
 ghost use Rattle.equivalence.specs.Vetted.{table_of};
-ghost use Rattle.session.specs.Roles.{head_at};
+ghost use Rattle.session.specs.Roles.{Ordered, head_at};
 ghost use Rattle.session.specs.Sessions.{Starting};
 
 use super::super::role::Role;
@@ -30,6 +30,8 @@ impl Table {
         requires room { array_vec_len self.old.role_of < 128 }
         requires known { r < array_vec_len self.old.roles }
         ensures table { self.new.role_of.items ≡ self.old.role_of.items ++ r ∷ [] }
+        ensures count { array_vec_len self.new.roles ≡ array_vec_len self.old.roles }
+        ensures heads { (q : ℕ) → head_at self.new.roles.items q ≡ head_at self.old.roles.items q }
         ensures colours { self.new.colours ≡ self.old.colours }
         ensures splits { self.new.splits ≡ self.old.splits }
     {
@@ -42,6 +44,7 @@ impl Table {
     fn begin(&mut self)
         requires room { array_vec_len self.old.role_of < 128 }
         ensures table { self.new.role_of.items ≡ self.old.role_of.items ++ array_vec_len self.old.roles ∷ [] }
+        ensures roles { self.new.roles.items ≡ self.old.roles.items ++ record { head = length self.old.role_of.items; size = 1 } ∷ [] }
         ensures colours { self.new.colours ≡ self.old.colours }
         ensures splits { self.new.splits ≡ self.old.splits }
     {
@@ -66,6 +69,7 @@ impl Table {
         ensures colours { result.colours ≡ colours }
         ensures nodes { length result.role_of.items ≡ n }
         ensures start { Starting n (table_of result.colours) (table_of result.role_of.items) }
+        ensures ordered { Ordered (array_vec_len result.roles) (head_at result.roles.items) }
         ensures splits { result.splits ≡ 0 }
     {
         let mut table = Table::empty(colours);
@@ -84,6 +88,7 @@ impl Table {
         ensures colours { (x : ℕ) → table_of result.colours x ≡ 0 }
         ensures nodes { length result.role_of.items ≡ n }
         ensures start { Starting n (table_of result.colours) (table_of result.role_of.items) }
+        ensures ordered { Ordered (array_vec_len result.roles) (head_at result.roles.items) }
         ensures splits { result.splits ≡ 0 }
     {
         Table::starting(n, [0; 128])
@@ -94,6 +99,7 @@ impl Table {
         ensures colours { self.new.colours ≡ self.old.colours }
         ensures nodes { length self.new.role_of.items ≡ length self.old.role_of.items }
         ensures start { Starting (length self.old.role_of.items) (table_of self.new.colours) (table_of self.new.role_of.items) }
+        ensures ordered { Ordered (array_vec_len self.new.roles) (head_at self.new.roles.items) }
         ensures splits { self.new.splits ≡ 0 }
     {
         *self = Table::starting(self.role_of.len(), self.colours);
@@ -105,6 +111,7 @@ impl Table {
         ensures colours { self.new.colours ≡ slice_set self.old.colours x c }
         ensures nodes { length self.new.role_of.items ≡ length self.old.role_of.items }
         ensures start { Starting (length self.old.role_of.items) (table_of self.new.colours) (table_of self.new.role_of.items) }
+        ensures ordered { Ordered (array_vec_len self.new.roles) (head_at self.new.roles.items) }
         ensures splits { self.new.splits ≡ 0 }
     {
         self.colours[x] = c;

@@ -1,8 +1,8 @@
-use Rattle.std.proofs.Common.{◌∙◌, sym, subst, refl, ap}
+use Rattle.std.proofs.Common.{◌∙◌, sym, subst, refl, ap, arith}
 use Rattle.equivalence.specs.Regular.{Regular}
 use Rattle.equivalence.proofs.Refinement.{coarsest_settled}
 use Rattle.session.specs.OpenSessions.{state_of}
-use Rattle.session.specs.States.{State, role}
+use Rattle.session.specs.States.{State, role, role_count}
 use Rattle.session.proofs.open.Open.settle.Goals as goal
 
 pub returns-clause-ended : goal.returns-clause-ended
@@ -16,4 +16,6 @@ returns-clause-ended g c =
       colours = ap (λ t. t.colours) stop.stepped ∙ c.loop.invariant.1;
       coarsest = coarsest_settled g.M.Measure.ops s.network s.colours (role s) new.sound.between regular;
       splits = new.sound.counted;
+      more = omega (arith, c.loop.invariant.2, ap role_count stop.stepped);
+      heads = λ q l. ap (λ t. t.head q) stop.stepped ∙ c.loop.invariant.3 q l;
     }
