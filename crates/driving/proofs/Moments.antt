@@ -4,6 +4,7 @@ use Rattle.std.proofs.lemmas.Bool.{cases_lt}
 use Rattle.std.proofs.lemmas.Option.{slice_get_within}
 use Rattle.network.specs.Meaning.{Meaning}
 use Rattle.measure.specs.Measures.{Operations}
+use Rattle.session.specs.States.{role_count}
 use Rattle.driving.specs.Book.{Book, book_in}
 use Rattle.driving.specs.Courses.{Course, takes, book_after}
 use Rattle.driving.specs.Laws.{Still, Rests, Finds}
@@ -11,7 +12,7 @@ use Rattle.driving.specs.Runs.{At, Run, course_before}
 use Rattle.driving.specs.Turns.{Turn}
 use Rattle.driving.specs.declared.call.Exchange.{Exchange}
 use Rattle.driving.proofs.Running.{at_some, course_next}
-use Rattle.driving.proofs.Turning.{Best, book_same, booked, best_settled, best_found, best_rests, quiet}
+use Rattle.driving.proofs.Turning.{Best, book_same, booked, best_settled, best_found, best_rests, heads_stay, quiet}
 
 module _ {V : Type 0} (o : Operations V) (m : Meaning) (given done : List Exchange) (run : Run o m given done) where
   abbrev course : ℕ → Course
@@ -58,10 +59,18 @@ module _ {V : Type 0} (o : Operations V) (m : Meaning) (given done : List Exchan
       quiet o (run.state j) (run.state (j + 1)) e.area.now d.reply d.area.now (course j).settled e.call (turn_at j e d here there) (quiets j d a b there) ∙ was)
 
   -- once the coarsest table is found, it stays until a put or a colour is accepted
-  pub rests_best : (j k : ℕ) → j < k → k ≤ length given → Finds given done j → Rests given done j k → Best o (run.state k)
+  pub rests_best : (j k : ℕ) → j < k → k ≤ length given → Finds given done j → Rests given done (j + 1) k → Best o (run.state k)
   rests_best j k l within (e, d, here, there, finds) rests =
       along (λ i. Best o (run.state i)) (j + 1)
       (best_found o (run.state j) (run.state (j + 1)) e.area.now d.reply d.area.now (course j).settled e.call (turn_at j e d here there) (run.sound j (omega (arith, l, within))) (bests j (omega (arith, l, within))) finds)
       k (omega (arith, l)) within
       (λ i f c a b at at_done was.
-      best_rests o (run.state i) (run.state (i + 1)) f.area.now c.reply c.area.now (course i).settled f.call (turn_at i f c at at_done) was (rests i c (omega (arith, a)) b at_done))
+      best_rests o (run.state i) (run.state (i + 1)) f.area.now c.reply c.area.now (course i).settled f.call (turn_at i f c at at_done) was (rests i c a b at_done))
+
+  -- and so do the numbers and the heads of roles
+  pub rests_heads : (i k : ℕ) → i ≤ k → k ≤ length given → Rests given done i k → (r : ℕ) → r < role_count (run.state i) → (r < role_count (run.state k)) × ((run.state k).head r ≡ (run.state i).head r)
+  rests_heads i k l within rests r known =
+      along (λ j. (r < role_count (run.state j)) × ((run.state j).head r ≡ (run.state i).head r)) i (known, refl) k l within
+      (λ j e d a b here there was.
+      let (more, same) = heads_stay o (run.state j) (run.state (j + 1)) e.area.now d.reply d.area.now (course j).settled e.call (turn_at j e d here there) (rests j d a b there) r was.0 in
+      (more, same ∙ was.1))

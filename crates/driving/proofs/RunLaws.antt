@@ -3,6 +3,7 @@ use Rattle.std.specs.Borrow.{Bor}
 use Rattle.std.proofs.Common.{rules, ◌≡◌, ℕ, ◌+◌, ◌<◌, ◌≤◌, Bool, true, false, cond, ltb, List, length, slice_index, Result, Ok, Err, refl, sym, ap, subst, ◌∙◌, arith}
 use Rattle.std.proofs.lemmas.Bool.Decides.{nat_tests}
 use Rattle.network.specs.Meaning.{Meaning}
+use Rattle.network.specs.Put.{put_answer}
 use Rattle.measure.specs.Measures.{Operations, Laws}
 use Rattle.equivalence.specs.Coarsest.{Coarsest, roles}
 use Rattle.equivalence.specs.Levels.{coarsest_table}
@@ -13,6 +14,7 @@ use Rattle.question.specs.Areas.{NodesAnswered}
 use Rattle.question.specs.Checks.{answer_start}
 use Rattle.session.specs.Questions.{AnswersNodes, AnswersRoles, ask_answer}
 use Rattle.session.specs.Roles.{Described}
+use Rattle.session.specs.Sessions.{colour_answer}
 use Rattle.session.specs.States.{State, record_of, role, role_count}
 use Rattle.session.specs.Tellings.{role_answer, record_answer}
 use Rattle.session.specs.declared.faults.Fault.{Fault}
@@ -21,13 +23,13 @@ use Rattle.session.proofs.Asked.{look_answers, ask_answers}
 use Rattle.question.specs.declared.line.Line.{Line}
 use Rattle.driving.specs.Book.{Book}
 use Rattle.driving.specs.Courses.{Course}
-use Rattle.driving.specs.Laws.{Told, Questions, Tellings, Settles, QuestionsLaw, TellingsLaw, SettlesLaw}
+use Rattle.driving.specs.Laws.{Told, Edits, Questions, Tellings, Settles, EditsLaw, QuestionsLaw, TellingsLaw, StaysLaw, SettlesLaw}
 use Rattle.driving.specs.Runs.{At, Run, course_before}
 use Rattle.driving.specs.Turns.{Turn}
 use Rattle.driving.specs.declared.call.Call.{Call}
 use Rattle.driving.specs.declared.call.Exchange.{Exchange}
 use Rattle.driving.specs.declared.call.Reply.{Reply}
-use Rattle.driving.proofs.Moments.{turn_at, books, bests, still_same, rests_best}
+use Rattle.driving.proofs.Moments.{turn_at, books, bests, still_same, rests_best, rests_heads}
 use Rattle.std.proofs.lemmas.Option.{slice_get_within}
 
 -- of a reply that is a number or a refusal
@@ -93,6 +95,19 @@ module _ {V : Type 0} (o : Operations V) (laws : Laws o) (m : Meaning) (given do
               subst (λ (b : Book). Described b.network.nodes (role s) r v) book (subst (Described s.network.nodes (role s) r) (sym is) (sound.described r known));
         }
 
+  edits : Edits o m given done run
+  edits =
+      record {
+        put = λ k i j b e d here there is unsettled.
+            let l = slice_get_within given k e here in
+            let turn = subst (λ x. Turn o x (Call.Put i j b) (then k) (then (k + 1)) e.area.now d.reply d.area.now) unsettled (turn_of k e d (Call.Put i j b) here there is) in
+            turn.replied ∙ ap (λ (b' : Book). Reply.Put (put_answer b'.network i j b)) (books o m given done run k (omega (arith, l)));
+        colour = λ k i c e d here there is unsettled.
+            let l = slice_get_within given k e here in
+            let turn = subst (λ x. Turn o x (Call.Colour i c) (then k) (then (k + 1)) e.area.now d.reply d.area.now) unsettled (turn_of k e d (Call.Colour i c) here there is) in
+            turn.replied ∙ ap (λ (b : Book). Reply.Colour (colour_answer b.network.nodes i)) (books o m given done run k (omega (arith, l)));
+      }
+
   ask_right : (k : ℕ) (e d : Exchange) (q : Bor (List Line)) (start : ℕ) → At given k e → At done k d → e.call ≡ Call.Ask q → (course k).settled ≡ true → answer_start q.now (role_count (then k)) (length e.area.now) ≡ Ok start → (d.reply ≡ Reply.Ask (Ok start)) × NodesAnswered o (course k).book.network (course k).book.colours q.now (role (then k)) (role_count (then k)) start d.area.now
   ask_right k e d q start here there asks settled passes =
       let l : k ≤ length given = omega (arith, slice_get_within given k e here) in
@@ -146,11 +161,17 @@ module _ {V : Type 0} (o : Operations V) (laws : Laws o) (m : Meaning) (given do
       }
 
 module _ {V : Type 0} (o : Operations V) (laws : Laws o) where
+  pub edits_law : EditsLaw o
+  edits_law = edits o laws
+
   pub questions_law : QuestionsLaw o
   questions_law = questions o laws
 
   pub tellings_law : TellingsLaw o
   tellings_law = tellings o laws
+
+  pub stays_law : StaysLaw o
+  stays_law m given done run i k l within rests = rests_heads o m given done run i k l within rests
 
   pub settles_law : SettlesLaw o
   settles_law m given done run j k l within finds rests = settles o laws m given done run k within (rests_best o m given done run j k l within finds rests)

@@ -1,12 +1,12 @@
 -- What a call makes of a session, by its turn. Assumes nothing.
-use Rattle.std.proofs.Common.{rules, ◌≡◌, ℕ, Bool, true, false, cond, List, Result, Ok, Err, MatchBool, refl, sym, ap, subst, inl, inr, ◌⊎◌}
+use Rattle.std.proofs.Common.{rules, ◌≡◌, ℕ, ◌<◌, Bool, true, false, cond, List, Result, Ok, Err, MatchBool, refl, sym, ap, subst, inl, inr, ◌⊎◌, arith}
 use Rattle.network.specs.Meaning.{Meaning}
 use Rattle.measure.specs.Measures.{Operations}
 use Rattle.equivalence.specs.Regular.{Table}
 use Rattle.equivalence.specs.Coarsest.{Coarsest}
 use Rattle.equivalence.proofs.Refinement.{coarsest_settled}
 use Rattle.session.specs.Sessions.{Edited}
-use Rattle.session.specs.States.{State, IsSound, role}
+use Rattle.session.specs.States.{State, IsSound, role, role_count}
 use Rattle.session.specs.Steps.{Stepped}
 use Rattle.session.specs.declared.step.Step as step
 use Rattle.session.specs.declared.step.Step.TheVariants.{Stable, Split}
@@ -143,6 +143,34 @@ module _ {V : Type 0} (o : Operations V) where
     pub best_rests : (settled : Bool) (c : Call) → Turn o settled c s t area r after → Best s → is_edit r ≡ false → Best t
     best_rests true c turn best e = same_best (settled_still c turn) best
     best_rests false c turn best e = rests_open c turn best e
+
+    -- until a put or a colour is accepted, a role keeps its number and its head
+    abbrev HeadsStay : Type 0
+    HeadsStay = (r : ℕ) → r < role_count s → (r < role_count t) × (t.head r ≡ s.head r)
+
+    heads_same : t ≡ s → HeadsStay
+    heads_same same r l = (omega (arith, l, ap role_count same), ap (λ x. x.head r) same)
+
+    heads_split : (did : step.Step) → Stepped o s t did → HeadsStay
+    heads_split Stable is = heads_same is
+    heads_split (Split part toward fresh) is = λ r l. (omega (arith, l, is.more), is.heads r l)
+
+    heads_open : (c : Call) → Turn o false c s t area r after → is_edit r ≡ false → HeadsStay
+    heads_open (Put i j b) turn e = heads_same (put_refused _ _ _ s t (rw turn.replied at e) turn.state)
+    heads_open (Colour i c) turn e = heads_same (colour_refused _ _ _ s t (rw turn.replied at e) turn.state)
+    heads_open Step turn e = heads_split turn.0 turn.2.state
+    heads_open Settle turn e = λ r l. (omega (arith, l, turn.state.more), turn.state.heads r l)
+    heads_open Reopen turn e = heads_same turn.state
+    heads_open (Look q) turn e = heads_same turn.state
+    heads_open (Ask q) turn e = heads_same turn.state
+    heads_open Roles turn e = heads_same turn.state
+    heads_open Splits turn e = heads_same turn.state
+    heads_open (RoleOf x) turn e = heads_same turn.state
+    heads_open (Role x) turn e = heads_same turn.state
+
+    pub heads_stay : (settled : Bool) (c : Call) → Turn o settled c s t area r after → is_edit r ≡ false → HeadsStay
+    heads_stay true c turn e = heads_same (settled_still c turn)
+    heads_stay false c turn e = heads_open c turn e
 
     -- a step that says stable
     stable_open : (c : Call) → Turn o false c s t area r after → IsSound o s → r ≡ Reply.Step Stable → Best t

@@ -4,15 +4,19 @@
 --   is_quiet         the reply leaves the table as it is
 --   Still            from moment i to moment k every reply is quiet
 --   Told             from moment i on, while the table stays as it is, the call is replied to so
---   Rests            behind call j and up to moment k, no put and no colour is accepted
+--   Rests            from moment i to moment k, no put and no colour is accepted
 --   Finds            call j finds the coarsest table: a settle, or a step that says stable
+--   Edits            a put and a colour that are taken are answered as the book of the moment answers them
 --   Questions        each row of a look has the network's answer for each node, and each row of an ask has it at each node's role
 --   Tellings         what is told from moment i on, until the table is altered, is told of one table
+--   Stays            from moment i to moment k, each role keeps its number and its head
 --   Settles          the table of moment k is the coarsest of the book of that moment, and what is told then is told of it
---   QuestionsLaw, TellingsLaw, SettlesLaw    so it is in every run; the last once the coarsest table is found, until a put or a colour is accepted
+--   EditsLaw, QuestionsLaw, TellingsLaw    so it is in every run
+--   StaysLaw, SettlesLaw    so it is in every run, until a put or a colour is accepted; the latter once the coarsest table is found
 use Rattle.std.specs.Borrow.{Bor}
 use Rattle.std.specs.Prelude.{◌≡◌, ◌⊎◌, ℕ, ◌+◌, ◌<◌, ◌≤◌, Bool, true, false, cond, List, length, slice_index, Ok}
 use Rattle.network.specs.Meaning.{Meaning}
+use Rattle.network.specs.Put.{put_answer}
 use Rattle.measure.specs.Measures.{Operations}
 use Rattle.equivalence.specs.Coarsest.{Coarsest, roles}
 use Rattle.equivalence.specs.Regular.{Table}
@@ -23,6 +27,7 @@ use Rattle.question.specs.Checks.{answer_start}
 use Rattle.question.specs.Truth.{answer, each_node}
 use Rattle.question.specs.declared.line.Line.{Line}
 use Rattle.session.specs.Roles.{Described}
+use Rattle.session.specs.Sessions.{colour_answer}
 use Rattle.session.specs.States.{State, role, role_count}
 use Rattle.session.specs.declared.role.Role as role_record
 use Rattle.session.specs.declared.step.Step.TheVariants.{Stable, Split}
@@ -53,7 +58,7 @@ module _ (given done : List Exchange) where
   Told i call reply = (k : ℕ) × (e : Exchange) × (d : Exchange) × Still i k × At given k e × At done k d × (e.call ≡ call) × (d.reply ≡ reply)
 
   abbrev pub Rests : ℕ → ℕ → Type 0
-  Rests j k = (i : ℕ) (d : Exchange) → j < i → i < k → At done i d → is_edit d.reply ≡ false
+  Rests i k = (j : ℕ) (d : Exchange) → i ≤ j → j < k → At done j d → is_edit d.reply ≡ false
 
   abbrev pub Finds : ℕ → Type 0
   Finds j = (e : Exchange) × (d : Exchange) × At given j e × At done j d × ((e.call ≡ Call.Settle) ⊎ (d.reply ≡ Reply.Step Stable))
@@ -66,6 +71,15 @@ module _ {V : Type 0} (o : Operations V) where
 
     abbrev then : ℕ → State
     then = run.state
+
+    -- of a session that is not settled
+    pub record Edits : Type 0 where
+      pub put : (k i j b : ℕ) (e d : Exchange)
+          → At given k e → At done k d → e.call ≡ Call.Put i j b → (course_before m given k).settled ≡ false
+          → d.reply ≡ Reply.Put (put_answer (book k).network i j b)
+      pub colour : (k i c : ℕ) (e d : Exchange)
+          → At given k e → At done k d → e.call ≡ Call.Colour i c → (course_before m given k).settled ≡ false
+          → d.reply ≡ Reply.Colour (colour_answer (book k).network.nodes i)
 
     -- of a question that passes its checks
     pub record Questions : Type 0 where
@@ -94,6 +108,9 @@ module _ {V : Type 0} (o : Operations V) where
       pub same : (r : ℕ) (v w : role_record.Role) → Told given done i (Call.Role r) (Reply.Role (Ok v)) → Told given done i (Call.Role r) (Reply.Role (Ok w)) → v ≡ w
       pub described : (r : ℕ) (v : role_record.Role) → Told given done i (Call.Role r) (Reply.Role (Ok v)) → Described (book i).network.nodes (role (then i)) r v
 
+    abbrev Stays : ℕ → ℕ → Type 0
+    Stays i k = (r : ℕ) → r < role_count (then i) → (r < role_count (then k)) × ((then k).head r ≡ (then i).head r)
+
     -- the coarsest table of the book of a moment, as levels compute it: each node is named by the lowest of its role
     abbrev computed : ℕ → Table
     computed k = table_of (coarsest_table o (book k).network (book k).colours)
@@ -105,11 +122,17 @@ module _ {V : Type 0} (o : Operations V) where
       pub count : (c : ℕ) → Told given done k Call.Roles (Reply.Roles c) → c ≡ roles (computed k) (book k).network.nodes
       pub head : (x r : ℕ) (v : role_record.Role) → Told given done k (Call.RoleOf x) (Reply.RoleOf (Ok r)) → Told given done k (Call.Role r) (Reply.Role (Ok v)) → v.head ≡ computed k x
 
+  abbrev pub EditsLaw : Type 0
+  EditsLaw = (m : Meaning) (given done : List Exchange) (run : Run o m given done) → Edits m given done run
+
   abbrev pub QuestionsLaw : Type 0
   QuestionsLaw = (m : Meaning) (given done : List Exchange) (run : Run o m given done) → Questions m given done run
 
   abbrev pub TellingsLaw : Type 0
   TellingsLaw = (m : Meaning) (given done : List Exchange) (run : Run o m given done) (i : ℕ) → i ≤ length given → Tellings m given done run i
 
+  abbrev pub StaysLaw : Type 0
+  StaysLaw = (m : Meaning) (given done : List Exchange) (run : Run o m given done) (i k : ℕ) → i ≤ k → k ≤ length given → Rests given done i k → Stays m given done run i k
+
   abbrev pub SettlesLaw : Type 0
-  SettlesLaw = (m : Meaning) (given done : List Exchange) (run : Run o m given done) (j k : ℕ) → j < k → k ≤ length given → Finds given done j → Rests given done j k → Settles m given done run k
+  SettlesLaw = (m : Meaning) (given done : List Exchange) (run : Run o m given done) (j k : ℕ) → j < k → k ≤ length given → Finds given done j → Rests given done (j + 1) k → Settles m given done run k

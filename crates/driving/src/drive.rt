@@ -2,7 +2,7 @@
 ghost use Rattle.equivalence.specs.Levels.{LevelsCoarsest};
 ghost use Rattle.session.specs.SettledSessions.{settled_state};
 ghost use Rattle.driving.specs.Courses.{last_book};
-ghost use Rattle.driving.specs.Laws.{QuestionsLaw, SettlesLaw, TellingsLaw};
+ghost use Rattle.driving.specs.Laws.{EditsLaw, QuestionsLaw, SettlesLaw, StaysLaw, TellingsLaw};
 ghost use Rattle.driving.specs.Promise.{Answers, Coarse, Driven, KeepsBook};
 ghost use Rattle.driving.specs.Runs.{calls_of};
 
@@ -31,8 +31,10 @@ pub fn drive<N: Editable, M: Measure>(
     ensures levels { LevelsCoarsest M.Measure.ops }
 
     // Of every run, and so of this one.
+    ensures edits { EditsLaw M.Measure.ops }
     ensures questions { QuestionsLaw M.Measure.ops }
     ensures tellings { TellingsLaw M.Measure.ops }
+    ensures stays { StaysLaw M.Measure.ops }
     ensures settles { SettlesLaw M.Measure.ops }
 {
     let mut session = Session::Open(Open::new(network, measure));

@@ -13,7 +13,7 @@ use Rattle.driving.specs.States.{is_settled, state_in}
 use Rattle.driving.specs.Turns.{Turn}
 use Rattle.driving.proofs.Moments.{books}
 use Rattle.driving.proofs.Promised.{keeps_book, coarse, answers}
-use Rattle.driving.proofs.RunLaws.{questions_law, tellings_law, settles_law}
+use Rattle.driving.proofs.RunLaws.{edits_law, questions_law, tellings_law, stays_law, settles_law}
 use Rattle.driving.proofs.Running.{none, at_within, course_next, run_begun, run_next}
 use Rattle.driving.proofs.Turning.{Best, book_same}
 use Rattle.driving.proofs.drive.drive.Given.{Over}
@@ -107,11 +107,17 @@ returns-clause-answers g c = answers g.M.Measure.ops g.met.M.Measure.lawful (set
 pub returns-clause-levels : goal.returns-clause-levels
 returns-clause-levels g c = coarsest_level g.M.Measure.ops g.met.M.Measure.lawful
 
+pub returns-clause-edits : goal.returns-clause-edits
+returns-clause-edits g c = edits_law g.M.Measure.ops g.met.M.Measure.lawful
+
 pub returns-clause-questions : goal.returns-clause-questions
 returns-clause-questions g c = questions_law g.M.Measure.ops g.met.M.Measure.lawful
 
 pub returns-clause-tellings : goal.returns-clause-tellings
 returns-clause-tellings g c = tellings_law g.M.Measure.ops g.met.M.Measure.lawful
+
+pub returns-clause-stays : goal.returns-clause-stays
+returns-clause-stays g c = stays_law g.M.Measure.ops g.met.M.Measure.lawful
 
 pub returns-clause-settles : goal.returns-clause-settles
 returns-clause-settles g c = settles_law g.M.Measure.ops g.met.M.Measure.lawful
