@@ -1,6 +1,7 @@
 -- Runs that there are not: what they would tell is a lie. Assumes nothing.
 use Rattle.std.specs.Borrow.{Bor}
-use Rattle.std.proofs.Common.{◌≡◌, ℕ, ◌+◌, ◌*◌, ◌-◌, ◌<◌, ◌≤◌, true, false, ltb, List, [], ◌∷◌, length, slice_index, Ok, refl, ap, arith}
+use Rattle.std.proofs.Common.{◌∙◌, ◌≡◌, ℕ, ◌+◌, ◌*◌, ◌-◌, ◌<◌, ◌≤◌, true, false, ltb, List, [], ◌∷◌, length, slice_index, Ok, refl, ap, arith, inl, inr}
+use Rattle.std.proofs.lemmas.Bool.{cases_lt}
 use Rattle.std.proofs.lemmas.Bool.Decides.{nat_tests}
 use Rattle.network.specs.Meaning.{Meaning}
 use Rattle.network.proofs.Counting.{count_below_le}
@@ -8,18 +9,30 @@ use Rattle.measure.specs.Measures.{Operations, Laws}
 use Rattle.equivalence.specs.Coarsest.{first}
 use Rattle.question.specs.Checks.{answer_start}
 use Rattle.question.specs.declared.line.Line.{Line}
-use Rattle.session.specs.States.{State, role, role_count}
+use Rattle.session.specs.Roles.{Ordered}
+use Rattle.session.specs.States.{State, IsSound, role, role_count}
+use Rattle.session.specs.declared.role.Role as role_record
 use Rattle.driving.specs.Book.{Book}
 use Rattle.driving.specs.Runs.{At, Run}
 use Rattle.driving.specs.declared.call.Call.{Call}
 use Rattle.driving.specs.declared.call.Exchange.{Exchange}
 use Rattle.driving.specs.declared.call.Reply.{Reply}
 use Rattle.driving.proofs.Moments.{books}
+use Rattle.driving.proofs.Running.{at_some}
 use Rattle.driving.proofs.RunLaws.{questions_law, tellings_law}
 
 -- there are no more roles than nodes
 roles_few : (s : State) → role_count s ≤ s.network.nodes
 roles_few s = count_below_le (first (role s)) s.network.nodes
+
+-- where roles are numbered in the order of their heads, node 0 is of role 0
+role_of_node_0 : {V : Type 0} {o : Operations V} (s : State) → Ordered (role_count s) s.head → IsSound o s → 0 < s.network.nodes → role s 0 ≡ 0
+role_of_node_0 s ordered sound some =
+    let known = sound.ranged 0 some in
+    elim (cases_lt 0 (role s 0)) [
+      | inl above ↦ absurd ((sound.described (role s 0) known).lowest 0 (omega (arith, ordered 0 (role s 0) above known)) refl)
+      | inr past ↦ omega (arith, past)
+    ]
 
 module _ {V : Type 0} (o : Operations V) (laws : Laws o) (m : Meaning) where
   -- on a network of one node, node 0 is not told role 1
@@ -49,3 +62,20 @@ module _ {V : Type 0} (o : Operations V) (laws : Laws o) (m : Meaning) where
         let first_node : ltb 0 m.nodes ≡ true = grind (arith, nat_tests) in
         let byte = rw first_node at (law.1.last 0 some) in
         omega (arith, byte, zeros (1 * width - width + role s 0))
+
+  -- once node 0 has colour 7, role 0 is not told to have another head than node 0
+  module _ (a b told : Exchange) (done : List Exchange) (v : role_record.Role) where
+    abbrev coloured : List Exchange
+    coloured = record a { call = Call.Colour 0 7 } ∷ record b { call = Call.Role 0 } ∷ []
+
+    pub role_0_of_another_head : 0 < m.nodes → At done 1 told → told.reply ≡ Reply.Role (Ok v) → 0 < v.head → Run o m coloured done → ⊥
+    role_0_of_another_head some there tells other run =
+        let s = run.state 1 in
+        let (first_done, here) = at_some done 0 (omega (arith, run.one_each)) in
+        let turn = run.turn 0 (record a { call = Call.Colour 0 7 }) first_done (omega arith) refl here in
+        let same : (run.state 0).network.nodes ≡ m.nodes = ap (λ (m : Meaning). m.nodes) run.begun.network in
+        let first_node : ltb 0 (run.state 0).network.nodes ≡ true = grind (arith, nat_tests, same) in
+        let begun = (rw first_node at turn.state).accepted in
+        let next : s.network.nodes ≡ m.nodes = ap (λ (m : Meaning). m.nodes) begun.network ∙ same in
+        let is = (tellings_law o laws m coloured done run 1 (omega arith)).described 0 v (1, record b { call = Call.Role 0 }, told, (omega arith, λ j x c d. absurd (omega (arith, c, d))), refl, there, refl, tells) in
+        is.lowest 0 other (role_of_node_0 s begun.ordered (run.sound 1 (omega arith)) (omega (arith, next)))
