@@ -15,7 +15,7 @@ use Rattle.driving.specs.Courses.{takes, settled_after, book_after}
 use Rattle.driving.specs.Laws.{is_edit, is_quiet}
 use Rattle.driving.specs.Turns.{Gives, Does, Turn}
 use Rattle.driving.specs.declared.call.Call.{Call}
-use Rattle.driving.specs.declared.call.Call.TheVariants.{Put, Colour, Step, Settle, Reopen, Look, Ask, Roles, Splits, RoleOf, Role}
+use Rattle.driving.specs.declared.call.Call.TheVariants.{Put, Colour, Step, Settle}
 use Rattle.driving.specs.declared.call.Reply.{Reply}
 
 pub book_same : {m n : Meaning} {a b : Table} → m ≡ n → a ≡ b → ◌≡◌ {A = Book} (record { network = m; colours = a }) (record { network = n; colours = b })
@@ -69,13 +69,7 @@ module _ {V : Type 0} (o : Operations V) where
     does_book (Colour i c) did = book_same did.state.network did.state.colours
     does_book Step did = stepped_book s t did.0 did.2.state
     does_book Settle did = book_same did.state.network did.state.colours
-    does_book Reopen did = ap book_in did.state
-    does_book (Look q) did = ap book_in did.state
-    does_book (Ask q) did = ap book_in did.state
-    does_book Roles did = ap book_in did.state
-    does_book Splits did = ap book_in did.state
-    does_book (RoleOf x) did = ap book_in did.state
-    does_book (Role x) did = ap book_in did.state
+    does_book other did = ap book_in did.state
 
     -- the book is fed what is taken
     pub booked : (settled : Bool) (c : Call) → Turn o settled c s t area r after → book_in t ≡ cond (takes settled c) (book_after (book_in s) c) (book_in s)
@@ -84,16 +78,7 @@ module _ {V : Type 0} (o : Operations V) where
     -- no call alters a settled session
     settled_still : (c : Call) → Turn o true c s t area r after → t ≡ s
     settled_still (Put i j b) turn = turn.state
-    settled_still (Colour i c) turn = turn.state
-    settled_still Step turn = turn.state
-    settled_still Settle turn = turn.state
-    settled_still Reopen turn = turn.state
-    settled_still (Look q) turn = turn.state
-    settled_still (Ask q) turn = turn.state
-    settled_still Roles turn = turn.state
-    settled_still Splits turn = turn.state
-    settled_still (RoleOf x) turn = turn.state
-    settled_still (Role x) turn = turn.state
+    settled_still other turn = turn.state
 
     -- a quiet reply
     quiet_open : (c : Call) → Turn o false c s t area r after → is_quiet r ≡ true → t ≡ s
@@ -101,13 +86,7 @@ module _ {V : Type 0} (o : Operations V) where
     quiet_open (Colour i c) turn e = colour_refused _ _ _ s t (rw turn.replied at (quiet_edit r e)) turn.state
     quiet_open Step turn e = stepped_quiet s t turn.0 (rw turn.2.replied at e) turn.2.state
     quiet_open Settle turn e = absurd (search rules)
-    quiet_open Reopen turn e = turn.state
-    quiet_open (Look q) turn e = turn.state
-    quiet_open (Ask q) turn e = turn.state
-    quiet_open Roles turn e = turn.state
-    quiet_open Splits turn e = turn.state
-    quiet_open (RoleOf x) turn e = turn.state
-    quiet_open (Role x) turn e = turn.state
+    quiet_open other turn e = turn.state
 
     pub quiet : (settled : Bool) (c : Call) → Turn o settled c s t area r after → is_quiet r ≡ true → t ≡ s
     quiet true c turn e = settled_still c turn
@@ -132,13 +111,7 @@ module _ {V : Type 0} (o : Operations V) where
     rests_open (Colour i c) turn best e = same_best (colour_refused _ _ _ s t (rw turn.replied at e) turn.state) best
     rests_open Step turn best e = same_best (stepped_stable s t turn.0 (turn.1.1 best.regular) turn.2.state) best
     rests_open Settle turn best e = turn.state.coarsest
-    rests_open Reopen turn best e = same_best turn.state best
-    rests_open (Look q) turn best e = same_best turn.state best
-    rests_open (Ask q) turn best e = same_best turn.state best
-    rests_open Roles turn best e = same_best turn.state best
-    rests_open Splits turn best e = same_best turn.state best
-    rests_open (RoleOf x) turn best e = same_best turn.state best
-    rests_open (Role x) turn best e = same_best turn.state best
+    rests_open other turn best e = same_best turn.state best
 
     pub best_rests : (settled : Bool) (c : Call) → Turn o settled c s t area r after → Best s → is_edit r ≡ false → Best t
     best_rests true c turn best e = same_best (settled_still c turn) best
@@ -160,13 +133,7 @@ module _ {V : Type 0} (o : Operations V) where
     heads_open (Colour i c) turn e = heads_same (colour_refused _ _ _ s t (rw turn.replied at e) turn.state)
     heads_open Step turn e = heads_split turn.0 turn.2.state
     heads_open Settle turn e = λ r l. (omega (arith, l, turn.state.more), turn.state.heads r l)
-    heads_open Reopen turn e = heads_same turn.state
-    heads_open (Look q) turn e = heads_same turn.state
-    heads_open (Ask q) turn e = heads_same turn.state
-    heads_open Roles turn e = heads_same turn.state
-    heads_open Splits turn e = heads_same turn.state
-    heads_open (RoleOf x) turn e = heads_same turn.state
-    heads_open (Role x) turn e = heads_same turn.state
+    heads_open other turn e = heads_same turn.state
 
     pub heads_stay : (settled : Bool) (c : Call) → Turn o settled c s t area r after → is_edit r ≡ false → HeadsStay
     heads_stay true c turn e = heads_same (settled_still c turn)
@@ -177,16 +144,7 @@ module _ {V : Type 0} (o : Operations V) where
     stable_open Step turn sound e =
         let told : turn.0 ≡ Stable = search rules in
         same_best (stepped_stable s t turn.0 told turn.2.state) (coarsest_settled o s.network s.colours (role s) sound.between (turn.1.0 told))
-    stable_open (Put i j b) turn sound e = absurd (search rules)
-    stable_open (Colour i c) turn sound e = absurd (search rules)
-    stable_open Settle turn sound e = absurd (search rules)
-    stable_open Reopen turn sound e = absurd (search rules)
-    stable_open (Look q) turn sound e = absurd (search rules)
-    stable_open (Ask q) turn sound e = absurd (search rules)
-    stable_open Roles turn sound e = absurd (search rules)
-    stable_open Splits turn sound e = absurd (search rules)
-    stable_open (RoleOf x) turn sound e = absurd (search rules)
-    stable_open (Role x) turn sound e = absurd (search rules)
+    stable_open other turn sound e = absurd (search rules)
 
     pub best_found : (settled : Bool) (c : Call) → Turn o settled c s t area r after → IsSound o s → (settled ≡ true → Best s) → (c ≡ Call.Settle) ⊎ (r ≡ Reply.Step Stable) → Best t
     best_found true c turn sound was finds = same_best (settled_still c turn) (was refl)
