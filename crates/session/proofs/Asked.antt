@@ -1,5 +1,5 @@
 -- What the rows of an area say, after look and after ask. Assumes nothing.
-use Rattle.std.proofs.Common.{◌≡◌, ℕ, suc, ◌+◌, ◌-◌, ◌*◌, ◌<◌, Bool, cond, List, ◌++◌, length, get_or, flat_map, slice_index, Result, Ok, Err, IfOk, refl, ap, sym, ◌∙◌, suc-mul, arith}
+use Rattle.std.proofs.Common.{◌≡◌, ℕ, suc, ◌+◌, ◌-◌, ◌*◌, ◌<◌, Bool, cond, List, ◌++◌, length, get_or, flat_map, slice_index, Result, Ok, Err, IfOk, refl, ap, sym, ◌∙◌, add-one, suc-mul, arith}
 use Rattle.std.proofs.Math.Nat.{mul-le-mul_right}
 use Rattle.std.proofs.lemmas.List.{get_or_append_left}
 use Rattle.network.specs.Meaning.{Meaning}
@@ -17,16 +17,13 @@ use Rattle.session.specs.Questions.{ask_answer, look_answer, after_ask, after_lo
 use Rattle.session.specs.States.{State, IsSound, role, role_count}
 use Rattle.session.proofs.Rows.{read_row, length_rows}
 
-plus_one : (k : ℕ) → suc k ≡ k + 1
-plus_one k = omega arith
-
 one_less : (n : ℕ) → 0 < n → suc (n - 1) ≡ n
 one_less n some = omega arith
 
 -- a byte of the row of line k
 row_byte : (width : ℕ) (told : List (ℕ → Bool)) (rest : List ℕ) (k p : ℕ) → k < length told → p < width → get_or (flat_map (row_bytes width) told ++ rest) (k * width + p) 0 ≡ cond (row told k p) 1 0
 row_byte width told rest k p line l =
-    let within : k * width + width < length told * width + 1 = omega (arith, suc-mul k width, mul-le-mul_right {m = k + 1} {n = length told} width (omega (arith, line)), ap (λ j. j * width) (plus_one k)) in
+    let within : k * width + width < length told * width + 1 = omega (arith, suc-mul k width, mul-le-mul_right {m = k + 1} {n = length told} width (omega (arith, line)), ap (λ j. j * width) (sym (add-one k))) in
     get_or_append_left (flat_map (row_bytes width) told) rest 0 (k * width + p) (omega (arith, length_rows width told, within))
     ∙ read_row width told k p line l
 
@@ -72,3 +69,12 @@ pub ask_agrees :
     → IfOk r (λ start. AnswersRoles o s lines start new)
 ask_agrees o laws s sound regular lines area new (Err f) is after = tt
 ask_agrees o laws s sound regular lines area new (Ok start) is after = rw after (ask_answers o s lines area start laws sound regular (sym is))
+
+-- and of what look gives back
+pub look_agrees :
+    {V : Type 0} (o : Operations V) (s : State) (lines : List Line) (area new : List ℕ) (r : Result ℕ Fault)
+    → r ≡ look_answer s lines area
+    → new ≡ after_look o s lines area
+    → IfOk r (λ start. AnswersNodes o s lines start new)
+look_agrees o s lines area new (Err f) is after = tt
+look_agrees o s lines area new (Ok start) is after = rw after (look_answers o s lines area start (sym is))

@@ -111,7 +111,7 @@ module _ {V : Type 0} (o : Operations V) (laws : Laws o) (m : Meaning) (old : Ro
           toward = omega (arith, numbered old m.nodes fits);
           next = numbered old m.nodes fits;
           split = split_leaving;
-          heads = λ q l. heads_same still (omega (arith, one_more)) q (omega (arith, l, numbered old m.nodes fits));
+          roles = λ q l. (omega (arith, l, numbered old m.nodes fits, numbered new m.nodes (still ∙ fits), one_more), heads_same still (omega (arith, one_more)) q (omega (arith, l, numbered old m.nodes fits)));
           more = omega (arith, numbered old m.nodes fits, numbered new m.nodes (still ∙ fits), one_more);
           count = count;
         }

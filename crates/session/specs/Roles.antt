@@ -4,8 +4,8 @@
 --   head_at      the head that the record has
 --   Described    the record of a role: its head is its lowest node, so the role is not empty, and its size the number of its nodes
 --   Recorded     roles are numbered from 0, each with its record; there are at most 128 nodes, and no more roles than nodes
---   Ordered      so many roles are numbered in the order of their heads
---   Kept         the same, of the roles of the nodes and the records of the roles
+--   Ordered      the first so many roles are numbered in the order of their heads
+--   Kept         Recorded, of the list of the nodes' roles and the list of records
 use Rattle.std.specs.Prelude.{◌≡◌, ℕ, ◌<◌, ◌≤◌, List, ◌≢◌, length, slice_index_or}
 use Rattle.network.specs.Meaning.{count_below}
 use Rattle.equivalence.specs.Regular.{Table}

@@ -5,14 +5,14 @@
 --   colour_answer    accepted, or 3 where there is no such node
 --   colours_after    the colours after a colour, refused or not
 --   Edited           the state after a put or a colour: begun anew where it is accepted, as it was where it is refused
---   Ended            the state after a settle: the coarsest table of the same ties and colours, with its splits counted; the old roles keep their numbers
-use Rattle.std.specs.Prelude.{◌≡◌, ℕ, ◌+◌, ◌<◌, ◌≤◌, cond, ◌&&◌, ◌==◌, nat_lt, Result, Ok, Err, OnOk, OnErr}
+--   Ended            the state after a settle: the coarsest table of the same ties and colours, with its splits counted; the old roles keep their numbers and heads
+use Rattle.std.specs.Prelude.{◌≡◌, ℕ, ◌+◌, cond, ◌&&◌, ◌==◌, nat_lt, Result, Ok, Err, OnOk, OnErr}
 use Rattle.network.specs.Meaning.{Meaning}
 use Rattle.measure.specs.Measures.{Operations}
 use Rattle.equivalence.specs.Regular.{Table}
 use Rattle.equivalence.specs.Coarsest.{Coarsest, Refines}
 use Rattle.session.specs.Roles.{Ordered}
-use Rattle.session.specs.States.{State, role, role_count, class_count}
+use Rattle.session.specs.States.{State, KeepsRoles, role, role_count, class_count}
 use Rattle.session.specs.declared.faults.Fault.{Fault}
 
 abbrev pub Starting : ℕ → Table → Table → Type 0
@@ -44,6 +44,4 @@ pub record Ended {V : Type 0} (o : Operations V) (old new : State) : Type 0 wher
   pub colours : new.colours ≡ old.colours
   pub coarsest : Coarsest o new.network new.colours (role new)
   pub splits : new.splits + class_count new ≡ role_count new
-  -- each role keeps its number and its head
-  pub more : role_count old ≤ role_count new
-  pub heads : (q : ℕ) → q < role_count old → new.head q ≡ old.head q
+  pub roles : KeepsRoles old new

@@ -7,6 +7,7 @@
 --   record_of      the head and the size of a role
 --   state_with     the state of ties and a table of role records
 --   IsSound        what every state of a session is
+--   KeepsRoles     each role of the old state keeps its number and its head in the new one
 use Rattle.std.specs.Prelude.{◌≡◌, ℕ, ◌+◌, ◌<◌, ◌≤◌, List, length}
 use Rattle.network.specs.Meaning.{Meaning, count_below}
 use Rattle.measure.specs.Measures.{Operations}
@@ -52,3 +53,6 @@ pub record IsSound {V : Type 0} (o : Operations V) (s : State) : Type 0 where
   pub between : Between o s.network s.colours (role s)
   -- splits are roles minus starting classes
   pub counted : s.splits + class_count s ≡ role_count s
+
+abbrev pub KeepsRoles : State → State → Type 0
+KeepsRoles old new = (r : ℕ) → r < role_count old → (r < role_count new) × (new.head r ≡ old.head r)

@@ -5,7 +5,7 @@
 use Rattle.std.specs.Prelude.{◌≡◌, ℕ, ◌+◌, ◌<◌}
 use Rattle.measure.specs.Measures.{Operations}
 use Rattle.equivalence.specs.Splitting as splitting
-use Rattle.session.specs.States.{State, role, role_count}
+use Rattle.session.specs.States.{State, KeepsRoles, role, role_count}
 use Rattle.session.specs.declared.step.Step.{Step}
 use Rattle.session.specs.declared.step.Step.TheVariants.{Stable, Split}
 
@@ -17,8 +17,8 @@ pub record InTwo {V : Type 0} (o : Operations V) (old new : State) (r c fresh : 
   pub toward : c < role_count old
   pub next : fresh ≡ role_count old
   pub split : splitting.Split o old.network (role old) (role new) r c fresh
-  -- each role keeps its number, and its head stays in it
-  pub heads : (q : ℕ) → q < role_count old → new.head q ≡ old.head q
+  -- role r too, so that its head is of those that stay
+  pub roles : KeepsRoles old new
   pub more : role_count new ≡ role_count old + 1
   pub count : new.splits ≡ old.splits + 1
 

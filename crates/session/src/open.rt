@@ -18,8 +18,8 @@ mod answering;
 // Look, and ask for a settled session.
 mod looking;
 
-/// Put alters ties, colour alters colours, and either brings the table back to the starting classes
-/// where it is accepted.
+/// A session that takes put, colour and step. Either of put and colour brings the table back to the
+/// starting classes where it is accepted.
 #[derive(Drop)]
 pub struct Open<N: Editable, M: Measure> {
     network: N,

@@ -1,6 +1,7 @@
 // One role of a table.
 ghost use Rattle.std.specs.Prelude.{◌≡◌, ◌+◌, ◌-◌, ◌<◌, ◌≤◌};
 
+/// A role's record, as a session keeps and tells it.
 #[derive(Clone, Copy, PartialEq, Eq, Debug, Default)]
 pub struct Role {
     /// The lowest node of the role.

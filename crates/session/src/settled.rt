@@ -82,7 +82,7 @@ impl<N: Editable, M: Measure> Settled<N, M> {
         self.session.role(r)
     }
 
-    /// The role of each node, in order: the coarsest regular table.
+    /// The role of each node, in order.
     pub fn table(&self) -> &[u8]
         ensures table { result.now ≡ (settled_state self.now).table }
         ensures sound { IsSound M.Measure.ops (settled_state self.now) }

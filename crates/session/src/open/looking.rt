@@ -1,7 +1,8 @@
 // What a session answers to a question: at each node, and at each role.
-ghost use Rattle.std.specs.Prelude.{◌≡◌};
+ghost use Rattle.std.specs.Prelude.{◌≡◌, IfOk};
 ghost use Rattle.session.specs.OpenSessions.{state_of};
-ghost use Rattle.session.specs.Questions.{after_ask, after_look, ask_answer, look_answer};
+ghost use Rattle.session.specs.Questions.{AnswersNodes, after_ask, after_look};
+ghost use Rattle.session.specs.Questions.{ask_answer, look_answer};
 
 use super::super::places::EachNode;
 use super::Open;
@@ -17,6 +18,8 @@ impl<N: Editable, M: Measure> Open<N, M> {
         ensures start { result ≡ look_answer (state_of self.now) question.now area.old }
         ensures area { let s = state_of self.now in
             area.new ≡ after_look M.Measure.ops s question.now area.old }
+        ensures agrees { let s = state_of self.now in
+            IfOk result (λ start. AnswersNodes M.Measure.ops s question.now start area.new) }
     {
         self.answer(&EachNode::of(self.table.nodes()), question, area)
     }

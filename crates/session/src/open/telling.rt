@@ -53,8 +53,7 @@ impl<N: Editable, M: Measure> Open<N, M> {
         Ok(self.table.role(r))
     }
 
-    /// The role of each node, in order. Within the starting classes, and coarser than every regular
-    /// table within them.
+    /// The role of each node, in order.
     pub fn table(&self) -> &[u8]
         ensures table { result.now ≡ (state_of self.now).table }
         ensures sound { IsSound M.Measure.ops (state_of self.now) }

@@ -16,6 +16,11 @@ returns-clause-ended g c =
       colours = ap (λ t. t.colours) stop.stepped ∙ c.loop.invariant.1;
       coarsest = coarsest_settled g.M.Measure.ops s.network s.colours (role s) new.sound.between regular;
       splits = new.sound.counted;
-      more = omega (arith, c.loop.invariant.2, ap role_count stop.stepped);
-      heads = λ q l. ap (λ t. t.head q) stop.stepped ∙ c.loop.invariant.3 q l;
+      roles = λ r l. let (known, same) = c.loop.invariant.2 r l in (omega (arith, known, ap role_count stop.stepped), ap (λ t. t.head r) stop.stepped ∙ same);
     }
+
+pub loop-preserved : goal.loop-preserved
+loop-preserved g c =
+    let i = c.loop.invariant in
+    let split = c.in-Split.ensures.stepped in
+    (c.step.ensures.parts ∙ i.0, split.colours ∙ i.1, λ r l. let was = i.2 r l in let now = split.roles r was.0 in (now.0, now.1 ∙ was.1))
