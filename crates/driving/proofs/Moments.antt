@@ -4,7 +4,7 @@ use Rattle.std.proofs.lemmas.Bool.{cases_lt}
 use Rattle.std.proofs.lemmas.Option.{slice_get_within}
 use Rattle.network.specs.Meaning.{Meaning}
 use Rattle.measure.specs.Measures.{Operations}
-use Rattle.session.specs.States.{role_count}
+use Rattle.session.specs.States.{KeepsRoles, role_count}
 use Rattle.driving.specs.Book.{Book, book_in}
 use Rattle.driving.specs.Courses.{Course, takes, book_after}
 use Rattle.driving.specs.Laws.{Still, Rests, Finds}
@@ -68,7 +68,7 @@ module _ {V : Type 0} (o : Operations V) (m : Meaning) (given done : List Exchan
       best_rests o (run.state i) (run.state (i + 1)) f.area.now c.reply c.area.now (course i).settled f.call (turn_at i f c at at_done) was (rests i c a b at_done))
 
   -- and so do the numbers and the heads of roles
-  pub rests_heads : (i k : ℕ) → i ≤ k → k ≤ length given → Rests given done i k → (r : ℕ) → r < role_count (run.state i) → (r < role_count (run.state k)) × ((run.state k).head r ≡ (run.state i).head r)
+  pub rests_heads : (i k : ℕ) → i ≤ k → k ≤ length given → Rests given done i k → KeepsRoles (run.state i) (run.state k)
   rests_heads i k l within rests r known =
       along (λ j. (r < role_count (run.state j)) × ((run.state j).head r ≡ (run.state i).head r)) i (known, refl) k l within
       (λ j e d a b here there was.

@@ -1,12 +1,11 @@
 -- What a settled session keeps, it promises of its book. Assumes nothing.
 use Rattle.std.proofs.Common.{◌≡◌, ◌∙◌, refl, sym, subst}
 use Rattle.measure.specs.Measures.{Operations, Laws}
-use Rattle.equivalence.proofs.Levels.{coarsest_named}
-use Rattle.session.specs.States.{State, IsSound, role}
+use Rattle.session.specs.States.{State, IsSound}
 use Rattle.session.proofs.Asked.{look_answers, ask_answers}
 use Rattle.driving.specs.Book.{Book, book_in}
 use Rattle.driving.specs.Promise.{KeepsBook, Coarse, Answers}
-use Rattle.driving.proofs.Turning.{Best}
+use Rattle.driving.proofs.Turning.{Best, heads_computed}
 
 module _ {V : Type 0} (o : Operations V) (laws : Laws o) (s : State) (sound : IsSound o s) (best : Best o s) (book : Book) (same : book_in s ≡ book) where
   pub keeps_book : KeepsBook o book s
@@ -18,9 +17,7 @@ module _ {V : Type 0} (o : Operations V) (laws : Laws o) (s : State) (sound : Is
       (record {
         fewest = best.fewest;
         inside = best.inside;
-        computed = λ x l.
-            let told = sound.described (role s x) (sound.ranged x l) in
-            coarsest_named o laws s.network s.colours (role s) best x (s.head (role s x)) l (record { mate = told.mate; lowest = told.lowest });
+        computed = heads_computed o laws s sound best;
       })
 
   pub answers : Answers o book s

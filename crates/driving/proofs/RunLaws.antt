@@ -8,7 +8,7 @@ use Rattle.measure.specs.Measures.{Operations, Laws}
 use Rattle.equivalence.specs.Coarsest.{Coarsest, roles}
 use Rattle.equivalence.specs.Levels.{coarsest_table}
 use Rattle.equivalence.specs.Vetted.{table_of}
-use Rattle.equivalence.proofs.Levels.{coarsest_level, coarsest_named}
+use Rattle.equivalence.proofs.Levels.{coarsest_level}
 use Rattle.equivalence.proofs.Stable.{coarsest_one}
 use Rattle.question.specs.Areas.{NodesAnswered}
 use Rattle.question.specs.Checks.{answer_start}
@@ -23,12 +23,13 @@ use Rattle.session.proofs.Asked.{look_answers, ask_answers}
 use Rattle.question.specs.declared.line.Line.{Line}
 use Rattle.driving.specs.Book.{Book}
 use Rattle.driving.specs.Courses.{Course}
-use Rattle.driving.specs.Laws.{Told, Edits, Questions, Tellings, Settles, EditsLaw, QuestionsLaw, TellingsLaw, StaysLaw, SettlesLaw}
+use Rattle.driving.specs.Laws.{Told, Rests, Edits, Questions, Tellings, Stays, Settles, EditsLaw, QuestionsLaw, TellingsLaw, StaysLaw, SettlesLaw}
 use Rattle.driving.specs.Runs.{At, Run, course_before}
 use Rattle.driving.specs.Turns.{Turn}
 use Rattle.driving.specs.declared.call.Call.{Call}
 use Rattle.driving.specs.declared.call.Exchange.{Exchange}
 use Rattle.driving.specs.declared.call.Reply.{Reply}
+use Rattle.driving.proofs.Turning.{heads_computed}
 use Rattle.driving.proofs.Moments.{turn_at, books, bests, still_same, rests_best, rests_heads}
 use Rattle.std.proofs.lemmas.Option.{slice_get_within}
 
@@ -138,18 +139,23 @@ module _ {V : Type 0} (o : Operations V) (laws : Laws o) (m : Meaning) (given do
             ap (λ p. slice_index d.area.now (start + p)) here_is ∙ (ask_right k e d q start here there asks settled passes).1.last x inside;
       }
 
+  stays : (i k : ℕ) → i ≤ k → k ≤ length given → Rests given done i k → Stays o m given done run i k
+  stays i k l within rests =
+      let kept = rests_heads o m given done run i k l within rests in
+      record {
+        roles = kept;
+        told = λ r v w before after.
+            let (known, was) = told_record i (omega (arith, l, within)) r v before in
+            let now = (told_record k within r w after).1 in
+            ap (λ (x : role_record.Role). x.head) now ∙ (kept r known).1 ∙ sym (ap (λ (x : role_record.Role). x.head) was);
+      }
+
   settles : (k : ℕ) → k ≤ length given → Coarsest o (then k).network (then k).colours (role (then k)) → Settles o m given done run k
   settles k within best =
       let s = then k in
-      let sound = run.sound k within in
       let book = books o m given done run k within in
       let told = tellings k within in
-      let computed : (x : ℕ) → x < s.network.nodes → s.head (role s x) ≡ table_of (coarsest_table o s.network s.colours) x =
-      λ x l.
-      let is = sound.described (role s x) (sound.ranged x l) in
-      coarsest_named o laws s.network s.colours (role s) best x (s.head (role s x)) l (record { mate = is.mate; lowest = is.lowest })
-      in
-      let heads = subst (λ (b : Book). (x : ℕ) → x < b.network.nodes → s.head (role s x) ≡ table_of (coarsest_table o b.network b.colours) x) book computed in
+      let heads = subst (λ (b : Book). (x : ℕ) → x < b.network.nodes → s.head (role s x) ≡ table_of (coarsest_table o b.network b.colours) x) book (heads_computed o laws s (run.sound k within) best) in
       let same_count = (coarsest_one o s.network s.colours (role s) (table_of (coarsest_table o s.network s.colours)) best (coarsest_level o laws s.network s.colours)).2 in
       record {
         coarsest = subst (λ (b : Book). Coarsest o b.network b.colours (role s)) book best;
@@ -171,7 +177,7 @@ module _ {V : Type 0} (o : Operations V) (laws : Laws o) where
   tellings_law = tellings o laws
 
   pub stays_law : StaysLaw o
-  stays_law m given done run i k l within rests = rests_heads o m given done run i k l within rests
+  stays_law = stays o laws
 
   pub settles_law : SettlesLaw o
   settles_law m given done run j k l within finds rests = settles o laws m given done run k within (rests_best o m given done run j k l within finds rests)

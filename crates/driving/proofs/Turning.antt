@@ -1,18 +1,21 @@
 -- What a call makes of a session, by its turn. Assumes nothing.
 use Rattle.std.proofs.Common.{rules, ◌≡◌, ℕ, ◌<◌, Bool, true, false, cond, List, Result, Ok, Err, MatchBool, refl, sym, ap, subst, inl, inr, ◌⊎◌, arith}
 use Rattle.network.specs.Meaning.{Meaning}
-use Rattle.measure.specs.Measures.{Operations}
+use Rattle.measure.specs.Measures.{Operations, Laws}
 use Rattle.equivalence.specs.Regular.{Table}
 use Rattle.equivalence.specs.Coarsest.{Coarsest}
+use Rattle.equivalence.proofs.Levels.{coarsest_named}
 use Rattle.equivalence.proofs.Refinement.{coarsest_settled}
+use Rattle.equivalence.specs.Levels.{coarsest_table}
+use Rattle.equivalence.specs.Vetted.{table_of}
 use Rattle.session.specs.Sessions.{Edited}
-use Rattle.session.specs.States.{State, IsSound, role, role_count}
+use Rattle.session.specs.States.{IsSound, KeepsRoles, State, role, role_count}
 use Rattle.session.specs.Steps.{Stepped}
 use Rattle.session.specs.declared.step.Step as step
 use Rattle.session.specs.declared.step.Step.TheVariants.{Stable, Split}
 use Rattle.driving.specs.Book.{Book, book_in}
 use Rattle.driving.specs.Courses.{takes, settled_after, book_after}
-use Rattle.driving.specs.Laws.{is_edit, is_quiet}
+use Rattle.driving.specs.Laws.{restarts, is_quiet}
 use Rattle.driving.specs.Turns.{Gives, Does, Turn}
 use Rattle.driving.specs.declared.call.Call.{Call}
 use Rattle.driving.specs.declared.call.Call.TheVariants.{Put, Colour, Step, Settle}
@@ -34,15 +37,15 @@ chosen true v x y if_so if_not fact = if_so fact
 chosen false v x y if_so if_not fact = if_not fact
 
 -- a put or a colour that is refused
-put_refused : (a : Result (Unit {0}) _) (m : Meaning) (classes : Table) (s t : State) → is_edit (Reply.Put a) ≡ false → Edited a m classes s t → t ≡ s
+put_refused : (a : Result (Unit {0}) _) (m : Meaning) (classes : Table) (s t : State) → restarts (Reply.Put a) ≡ false → Edited a m classes s t → t ≡ s
 put_refused (Ok tt) m classes s t e did = absurd (search rules)
 put_refused (Err f) m classes s t e did = did.refused
 
-colour_refused : (a : Result (Unit {0}) _) (m : Meaning) (classes : Table) (s t : State) → is_edit (Reply.Colour a) ≡ false → Edited a m classes s t → t ≡ s
+colour_refused : (a : Result (Unit {0}) _) (m : Meaning) (classes : Table) (s t : State) → restarts (Reply.Colour a) ≡ false → Edited a m classes s t → t ≡ s
 colour_refused (Ok tt) m classes s t e did = absurd (search rules)
 colour_refused (Err f) m classes s t e did = did.refused
 
-quiet_edit : (r : Reply) → is_quiet r ≡ true → is_edit r ≡ false
+quiet_edit : (r : Reply) → is_quiet r ≡ true → restarts r ≡ false
 quiet_edit (Reply.Put (Ok tt)) e = absurd (search rules)
 quiet_edit (Reply.Colour (Ok tt)) e = absurd (search rules)
 quiet_edit other e = refl
@@ -51,6 +54,12 @@ module _ {V : Type 0} (o : Operations V) where
   -- the table of a state is the coarsest of its ties and colours
   abbrev pub Best : State → Type 0
   Best s = Coarsest o s.network s.colours (role s)
+
+  -- and then heads are the names that levels give
+  pub heads_computed : Laws o → (s : State) → IsSound o s → Best s → (x : ℕ) → x < s.network.nodes → s.head (role s x) ≡ table_of (coarsest_table o s.network s.colours) x
+  heads_computed laws s sound best x l =
+      let told = sound.described (role s x) (sound.ranged x l) in
+      coarsest_named o laws s.network s.colours (role s) best x (s.head (role s x)) l (record { mate = told.mate; lowest = told.lowest })
 
   stepped_quiet : (s t : State) (did : step.Step) → is_quiet (Reply.Step did) ≡ true → Stepped o s t did → t ≡ s
   stepped_quiet s t Stable e is = is
@@ -106,36 +115,33 @@ module _ {V : Type 0} (o : Operations V) where
     best_settled false c turn was e = settles c turn e
 
     -- a coarsest table stays, until a put or a colour is accepted
-    rests_open : (c : Call) → Turn o false c s t area r after → Best s → is_edit r ≡ false → Best t
+    rests_open : (c : Call) → Turn o false c s t area r after → Best s → restarts r ≡ false → Best t
     rests_open (Put i j b) turn best e = same_best (put_refused _ _ _ s t (rw turn.replied at e) turn.state) best
     rests_open (Colour i c) turn best e = same_best (colour_refused _ _ _ s t (rw turn.replied at e) turn.state) best
     rests_open Step turn best e = same_best (stepped_stable s t turn.0 (turn.1.1 best.regular) turn.2.state) best
     rests_open Settle turn best e = turn.state.coarsest
     rests_open other turn best e = same_best turn.state best
 
-    pub best_rests : (settled : Bool) (c : Call) → Turn o settled c s t area r after → Best s → is_edit r ≡ false → Best t
+    pub best_rests : (settled : Bool) (c : Call) → Turn o settled c s t area r after → Best s → restarts r ≡ false → Best t
     best_rests true c turn best e = same_best (settled_still c turn) best
     best_rests false c turn best e = rests_open c turn best e
 
     -- until a put or a colour is accepted, a role keeps its number and its head
-    abbrev HeadsStay : Type 0
-    HeadsStay = (r : ℕ) → r < role_count s → (r < role_count t) × (t.head r ≡ s.head r)
-
-    heads_same : t ≡ s → HeadsStay
+    heads_same : t ≡ s → KeepsRoles s t
     heads_same same r l = (omega (arith, l, ap role_count same), ap (λ x. x.head r) same)
 
-    heads_split : (did : step.Step) → Stepped o s t did → HeadsStay
+    heads_split : (did : step.Step) → Stepped o s t did → KeepsRoles s t
     heads_split Stable is = heads_same is
-    heads_split (Split part toward fresh) is = λ r l. (omega (arith, l, is.more), is.heads r l)
+    heads_split (Split part toward fresh) is = is.roles
 
-    heads_open : (c : Call) → Turn o false c s t area r after → is_edit r ≡ false → HeadsStay
+    heads_open : (c : Call) → Turn o false c s t area r after → restarts r ≡ false → KeepsRoles s t
     heads_open (Put i j b) turn e = heads_same (put_refused _ _ _ s t (rw turn.replied at e) turn.state)
     heads_open (Colour i c) turn e = heads_same (colour_refused _ _ _ s t (rw turn.replied at e) turn.state)
     heads_open Step turn e = heads_split turn.0 turn.2.state
-    heads_open Settle turn e = λ r l. (omega (arith, l, turn.state.more), turn.state.heads r l)
+    heads_open Settle turn e = turn.state.roles
     heads_open other turn e = heads_same turn.state
 
-    pub heads_stay : (settled : Bool) (c : Call) → Turn o settled c s t area r after → is_edit r ≡ false → HeadsStay
+    pub heads_stay : (settled : Bool) (c : Call) → Turn o settled c s t area r after → restarts r ≡ false → KeepsRoles s t
     heads_stay true c turn e = heads_same (settled_still c turn)
     heads_stay false c turn e = heads_open c turn e
 

@@ -1,11 +1,11 @@
 -- What holds in every run, at each of its moments: moment k is before call k. Assumes nothing.
 --
---   is_edit          a put or a colour is accepted
+--   restarts         the reply accepts a put or a colour, so that the table is back at the starting classes
 --   is_quiet         the reply leaves the table as it is
 --   Still            from moment i to moment k every reply is quiet
---   Told             from moment i on, while the table stays as it is, the call is replied to so
+--   Told             this call is replied to so, and from moment i to it every reply is quiet
 --   Rests            from moment i to moment k, no put and no colour is accepted
---   Finds            call j finds the coarsest table: a settle, or a step that says stable
+--   Finds            behind call j the table is the coarsest: it is a settle, or a step that says stable
 --   Edits            a put and a colour that are taken are answered as the book of the moment answers them
 --   Questions        each row of a look has the network's answer for each node, and each row of an ask has it at each node's role
 --   Tellings         what is told from moment i on, until the table is altered, is told of one table
@@ -14,7 +14,7 @@
 --   EditsLaw, QuestionsLaw, TellingsLaw    so it is in every run
 --   StaysLaw, SettlesLaw    so it is in every run, until a put or a colour is accepted; the latter once the coarsest table is found
 use Rattle.std.specs.Borrow.{Bor}
-use Rattle.std.specs.Prelude.{◌≡◌, ◌⊎◌, ℕ, ◌+◌, ◌<◌, ◌≤◌, Bool, true, false, cond, List, length, slice_index, Ok}
+use Rattle.std.specs.Prelude.{◌≡◌, ◌⊎◌, ℕ, ◌+◌, ◌<◌, ◌≤◌, Bool, true, false, not, cond, List, length, slice_index, Ok}
 use Rattle.network.specs.Meaning.{Meaning}
 use Rattle.network.specs.Put.{put_answer}
 use Rattle.measure.specs.Measures.{Operations}
@@ -28,7 +28,7 @@ use Rattle.question.specs.Truth.{answer, each_node}
 use Rattle.question.specs.declared.line.Line.{Line}
 use Rattle.session.specs.Roles.{Described}
 use Rattle.session.specs.Sessions.{colour_answer}
-use Rattle.session.specs.States.{State, role, role_count}
+use Rattle.session.specs.States.{KeepsRoles, role, role_count}
 use Rattle.session.specs.declared.role.Role as role_record
 use Rattle.session.specs.declared.step.Step.TheVariants.{Stable, Split}
 use Rattle.driving.specs.Book.{Book}
@@ -38,17 +38,15 @@ use Rattle.driving.specs.declared.call.Exchange.{Exchange}
 use Rattle.driving.specs.declared.call.Reply.{Reply}
 use Rattle.driving.specs.declared.call.Reply.TheVariants as replies
 
-abbrev pub is_edit : Reply → Bool
-is_edit (replies.Put (Ok _)) = true
-is_edit (replies.Colour (Ok _)) = true
-is_edit other = false
+abbrev pub restarts : Reply → Bool
+restarts (replies.Put (Ok _)) = true
+restarts (replies.Colour (Ok _)) = true
+restarts other = false
 
 abbrev pub is_quiet : Reply → Bool
-is_quiet (replies.Put (Ok _)) = false
-is_quiet (replies.Colour (Ok _)) = false
 is_quiet (replies.Step (Split part toward fresh)) = false
 is_quiet replies.Settled = false
-is_quiet other = true
+is_quiet other = not (restarts other)
 
 module _ (given done : List Exchange) where
   abbrev pub Still : ℕ → ℕ → Type 0
@@ -58,19 +56,15 @@ module _ (given done : List Exchange) where
   Told i call reply = (k : ℕ) × (e : Exchange) × (d : Exchange) × Still i k × At given k e × At done k d × (e.call ≡ call) × (d.reply ≡ reply)
 
   abbrev pub Rests : ℕ → ℕ → Type 0
-  Rests i k = (j : ℕ) (d : Exchange) → i ≤ j → j < k → At done j d → is_edit d.reply ≡ false
+  Rests i k = (j : ℕ) (d : Exchange) → i ≤ j → j < k → At done j d → restarts d.reply ≡ false
 
   abbrev pub Finds : ℕ → Type 0
   Finds j = (e : Exchange) × (d : Exchange) × At given j e × At done j d × ((e.call ≡ Call.Settle) ⊎ (d.reply ≡ Reply.Step Stable))
 
 module _ {V : Type 0} (o : Operations V) where
   module _ (m : Meaning) (given done : List Exchange) (run : Run o m given done) where
-    -- the book of a moment, and the table of the session then
     abbrev book : ℕ → Book
     book k = (course_before m given k).book
-
-    abbrev then : ℕ → State
-    then = run.state
 
     -- of a session that is not settled
     pub record Edits : Type 0 where
@@ -90,8 +84,8 @@ module _ {V : Type 0} (o : Operations V) where
       -- taken, as the session is settled
       pub ask : (k : ℕ) (e d : Exchange) (q : Bor (List Line)) (start : ℕ)
           → At given k e → At done k d → e.call ≡ Call.Ask q → (course_before m given k).settled ≡ true
-          → answer_start q.now (role_count (then k)) (length e.area.now) ≡ Ok start
-          → (d.reply ≡ Reply.Ask (Ok start)) × NodesAnswered o (book k).network (book k).colours q.now (role (then k)) (role_count (then k)) start d.area.now
+          → answer_start q.now (role_count (run.state k)) (length e.area.now) ≡ Ok start
+          → (d.reply ≡ Reply.Ask (Ok start)) × NodesAnswered o (book k).network (book k).colours q.now (role (run.state k)) (role_count (run.state k)) start d.area.now
       -- so an ask that starts here has in its last row, at the role that a node is told to have, the answer for the node
       pub told : (i k : ℕ) (e d : Exchange) (q : Bor (List Line)) (start x r : ℕ)
           → Still given done i k → At given k e → At done k d → e.call ≡ Call.Ask q → d.reply ≡ Reply.Ask (Ok start)
@@ -100,24 +94,26 @@ module _ {V : Type 0} (o : Operations V) where
 
     pub record Tellings (i : ℕ) : Type 0 where
       -- how many roles there are, and how many were split: roles minus starting classes
-      pub count : (c : ℕ) → Told given done i Call.Roles (Reply.Roles c) → c ≡ role_count (then i)
-      pub splits : (k : ℕ) → Told given done i Call.Splits (Reply.Splits k) → k + roles (book i).colours (book i).network.nodes ≡ role_count (then i)
+      pub count : (c : ℕ) → Told given done i Call.Roles (Reply.Roles c) → c ≡ role_count (run.state i)
+      pub splits : (k : ℕ) → Told given done i Call.Splits (Reply.Splits k) → k + roles (book i).colours (book i).network.nodes ≡ role_count (run.state i)
       -- a told role is that of the node, and below the number of roles
-      pub node : (x r : ℕ) → Told given done i (Call.RoleOf x) (Reply.RoleOf (Ok r)) → (x < (book i).network.nodes) × (r ≡ role (then i) x) × (r < role_count (then i))
+      pub node : (x r : ℕ) → Told given done i (Call.RoleOf x) (Reply.RoleOf (Ok r)) → (x < (book i).network.nodes) × (r ≡ role (run.state i) x) × (r < role_count (run.state i))
       -- of one role one record is told: its head is the lowest node of that role, and its size the number of its nodes
       pub same : (r : ℕ) (v w : role_record.Role) → Told given done i (Call.Role r) (Reply.Role (Ok v)) → Told given done i (Call.Role r) (Reply.Role (Ok w)) → v ≡ w
-      pub described : (r : ℕ) (v : role_record.Role) → Told given done i (Call.Role r) (Reply.Role (Ok v)) → Described (book i).network.nodes (role (then i)) r v
+      pub described : (r : ℕ) (v : role_record.Role) → Told given done i (Call.Role r) (Reply.Role (Ok v)) → Described (book i).network.nodes (role (run.state i)) r v
 
-    abbrev Stays : ℕ → ℕ → Type 0
-    Stays i k = (r : ℕ) → r < role_count (then i) → (r < role_count (then k)) × ((then k).head r ≡ (then i).head r)
+    pub record Stays (i k : ℕ) : Type 0 where
+      pub roles : KeepsRoles (run.state i) (run.state k)
+      -- so the head that is told of a role is told again
+      pub told : (r : ℕ) (v w : role_record.Role) → Told given done i (Call.Role r) (Reply.Role (Ok v)) → Told given done k (Call.Role r) (Reply.Role (Ok w)) → w.head ≡ v.head
 
     -- the coarsest table of the book of a moment, as levels compute it: each node is named by the lowest of its role
     abbrev computed : ℕ → Table
     computed k = table_of (coarsest_table o (book k).network (book k).colours)
 
     pub record Settles (k : ℕ) : Type 0 where
-      pub coarsest : Coarsest o (book k).network (book k).colours (role (then k))
-      pub heads : (x : ℕ) → x < (book k).network.nodes → (then k).head (role (then k) x) ≡ computed k x
+      pub coarsest : Coarsest o (book k).network (book k).colours (role (run.state k))
+      pub heads : (x : ℕ) → x < (book k).network.nodes → (run.state k).head (role (run.state k) x) ≡ computed k x
       -- so what is told from then on, until the table is altered, is told of the computed table
       pub count : (c : ℕ) → Told given done k Call.Roles (Reply.Roles c) → c ≡ roles (computed k) (book k).network.nodes
       pub head : (x r : ℕ) (v : role_record.Role) → Told given done k (Call.RoleOf x) (Reply.RoleOf (Ok r)) → Told given done k (Call.Role r) (Reply.Role (Ok v)) → v.head ≡ computed k x

@@ -39,7 +39,7 @@ pub enum Reply {
     Splits(usize),
     RoleOf(Result<usize, SessionFault>),
     Role(Result<Role, SessionFault>),
-    /// A session in this state does not take the call: it was not given it.
+    /// The session's state does not take the call, and it was not given.
     NotTaken,
 }
 

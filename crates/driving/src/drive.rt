@@ -1,6 +1,7 @@
 // A session that is driven by a list of calls, and what is promised of it.
+ghost use Rattle.std.specs.Prelude.{◌≡◌};
 ghost use Rattle.equivalence.specs.Levels.{LevelsCoarsest};
-ghost use Rattle.session.specs.SettledSessions.{settled_state};
+ghost use Rattle.session.specs.SettledSessions.{settled_parts, settled_state};
 ghost use Rattle.driving.specs.Courses.{last_book};
 ghost use Rattle.driving.specs.Laws.{EditsLaw, QuestionsLaw, SettlesLaw, StaysLaw, TellingsLaw};
 ghost use Rattle.driving.specs.Promise.{Answers, Coarse, Driven, KeepsBook};
@@ -28,6 +29,7 @@ pub fn drive<N: Editable, M: Measure>(
         Coarse M.Measure.ops book (settled_state result) }
     ensures answers { let book = last_book (N.Readable.meaning network) (calls_of exchanges.old) in
         Answers M.Measure.ops book (settled_state result) }
+    ensures measure { (settled_parts result).1 ≡ measure }
     ensures levels { LevelsCoarsest M.Measure.ops }
 
     // Of every run, and so of this one.

@@ -1,12 +1,11 @@
 // A session, open or settled, that takes calls in turn.
 ghost use Rattle.std.specs.Prelude.{◌≡◌, false, true};
-ghost use Rattle.session.specs.OpenSessions.{state_of};
+ghost use Rattle.session.specs.OpenSessions.{parts_of, state_of};
 ghost use Rattle.session.specs.Sessions.{Ended};
-ghost use Rattle.session.specs.SettledSessions.{settled_state};
+ghost use Rattle.session.specs.SettledSessions.{settled_parts, settled_state};
 ghost use Rattle.session.specs.States.{IsSound};
-ghost use Rattle.driving.specs.Book.{book_in};
 ghost use Rattle.driving.specs.Courses.{course_after, settled_after};
-ghost use Rattle.driving.specs.States.{course_in, is_settled, state_in};
+ghost use Rattle.driving.specs.States.{course_in, is_settled, parts_in, state_in};
 ghost use Rattle.driving.specs.Turns.{Turn};
 
 use super::call::{Call, Reply};
@@ -15,6 +14,7 @@ use network::interface::Editable;
 use session::open::Open;
 use session::settled::Settled;
 
+/// An open or a settled session.
 #[derive(Drop)]
 pub enum Session<N: Editable, M: Measure> {
     Open(Open<N, M>),
@@ -30,6 +30,7 @@ fn call_open<N: Editable, M: Measure>(
     ensures settled { is_settled result.0 ≡ settled_after false call.entry }
     ensures turn { let t = state_in result.0 in
         Turn M.Measure.ops false call.entry (state_of session) t area.old result.1 area.new }
+    ensures measure { (parts_in result.0).1 ≡ (parts_of session).1 }
 {
     let reply = match call {
         Call::Put(i, j, b) => Reply::Put(session.put(i, j, b)),
@@ -55,6 +56,7 @@ fn call_settled<N: Editable, M: Measure>(
     ensures settled { is_settled result.0 ≡ settled_after true call.entry }
     ensures turn { let t = state_in result.0 in
         Turn M.Measure.ops true call.entry (settled_state session) t area.old result.1 area.new }
+    ensures parts { parts_in result.0 ≡ settled_parts session }
 {
     let reply = match call {
         Call::Reopen => return (Session::Open(session.reopen()), Reply::Reopened),
@@ -70,12 +72,13 @@ fn call_settled<N: Editable, M: Measure>(
 }
 
 impl<N: Editable, M: Measure> Session<N, M> {
-    /// Gives the session the call, where it takes it.
+    /// Gives the session the call, where it takes it. Otherwise the reply is `NotTaken`.
     pub fn call(self, call: Call<'_>, area: &mut [u8]) -> (Session<N, M>, Reply)
         ensures course { course_in result.0 ≡ course_after (course_in self) call.entry }
         ensures turn { let s = state_in self in let t = state_in result.0 in
             Turn M.Measure.ops (is_settled self) call.entry s t area.old result.1 area.new }
         ensures sound { IsSound M.Measure.ops (state_in result.0) }
+        ensures measure { (parts_in result.0).1 ≡ (parts_in self).1 }
     {
         match self {
             Session::Open(session) => call_open(session, call, area),
@@ -88,6 +91,7 @@ impl<N: Editable, M: Measure> Session<N, M> {
         ensures ended { let s = state_in self in
             is_settled self ≡ false → Ended M.Measure.ops s (settled_state result) }
         ensures settled { is_settled self ≡ true → settled_state result ≡ state_in self }
+        ensures parts { settled_parts result ≡ parts_in self }
     {
         match self {
             Session::Open(session) => session.settle(),

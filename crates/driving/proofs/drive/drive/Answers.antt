@@ -21,7 +21,7 @@ use Rattle.driving.proofs.drive.drive.Goals as goal
 
 pub loop-exchange-init : goal.loop-exchange-init
 loop-exchange-init g c =
-    (refl, run_begun g.M.Measure.ops (g.N.Readable.meaning c.args.network) c.args.exchanges.now _ c.new.ensures.begun c.new.result.sound, λ j past. refl)
+    (ap (λ p. p.1) c.new.ensures.parts, refl, run_begun g.M.Measure.ops (g.N.Readable.meaning c.args.network) c.args.exchanges.now _ c.new.ensures.begun c.new.result.sound, λ j past. refl)
 
 pub loop-exchange-preserved : goal.loop-exchange-preserved
 loop-exchange-preserved g c =
@@ -31,29 +31,30 @@ loop-exchange-preserved g c =
     let xs = c.loop-exchange.exchanges in
     let k = c.loop-exchange.exchange-index in
     let i = c.loop-exchange.invariant in
-    let (run, now) = i.1 in
+    let (run, now) = i.2 in
     let e = get_or given k none in
     let x = get_or xs k none in
     let d : Exchange = record { call = x.call; area = record { ref_ptr = x.area.ref_ptr; ghost_name = x.area.ghost_name; now = c.call.new.area }; reply = c.call.result.1 } in
     let within : k < length given = omega (arith, c.loop-exchange-test.true, run.one_each) in
-    let was : x ≡ e = i.2 k (omega arith) in
+    let was : x ≡ e = i.3 k (omega arith) in
     let here = at_within given none k within in
     let next = state_in c.call.result.0 in
-    let settled_is : is_settled c.loop-exchange.session ≡ (course_before m given k).settled = i.0 in
+    let settled_is : is_settled c.loop-exchange.session ≡ (course_before m given k).settled = i.1 in
     let turn : Turn o (course_before m given k).settled e.call (run.state k) next e.area.now d.reply d.area.now =
     rw (was, settled_is, sym now) at c.call.ensures.turn
     in (
+      c.call.ensures.measure ∙ i.0,
       ap (λ (t : Course). t.settled) c.call.ensures.course
           ∙ ap (λ b. settled_after b x.call) settled_is
           ∙ ap (λ (y : Exchange). settled_after (course_before m given k).settled y.call) was
           ∙ sym (ap (λ (t : Course). t.settled) (course_next m given k e here)),
       run_next o m given xs k run within e d here next (record { call = ap (λ (y : Exchange). y.call) was; area = ap (λ (y : Exchange). y.area.ghost_name) was }) turn c.call.ensures.sound,
-      λ j past. get_or-set_other xs k j d none (λ n. omega (arith, past, n)) ∙ i.2 j (omega (arith, past)),
+      λ j past. get_or-set_other xs k j d none (λ n. omega (arith, past, n)) ∙ i.3 j (omega (arith, past)),
     )
 
 -- all calls are given
 at_end : (g : Over) (c : goal.After-settle g) → c.loop-exchange.exchange-index ≡ length c.args.exchanges.now
-at_end g c = omega (arith, c.loop-exchange-test.false, c.loop-exchange.auto, c.loop-exchange.invariant.1.0.one_each)
+at_end g c = omega (arith, c.loop-exchange-test.false, c.loop-exchange.auto, c.loop-exchange.invariant.2.0.one_each)
 
 -- and this is their run
 run : (g : Over) (c : goal.After-settle g) → (run : Run g.M.Measure.ops (g.N.Readable.meaning c.args.network) c.args.exchanges.now c.loop-exchange.exchanges) × (run.state (length c.args.exchanges.now) ≡ state_in c.loop-exchange.session) × (is_settled c.loop-exchange.session ≡ (course_before (g.N.Readable.meaning c.args.network) c.args.exchanges.now (length c.args.exchanges.now)).settled)
@@ -62,7 +63,7 @@ run g c =
     let given = c.args.exchanges.now in
     let i = c.loop-exchange.invariant in
     let P : ℕ → Type 0 = λ k. (run : RunTo g.M.Measure.ops m given c.loop-exchange.exchanges k) × (run.state k ≡ state_in c.loop-exchange.session) × (is_settled c.loop-exchange.session ≡ (course_before m given k).settled) in
-    subst P (at_end g c) (i.1.0, i.1.1, i.0)
+    subst P (at_end g c) (i.2.0, i.2.1, i.1)
 
 pub returns-clause-driven : goal.returns-clause-driven
 returns-clause-driven g c =
@@ -103,6 +104,9 @@ returns-clause-coarse g c = coarse g.M.Measure.ops g.met.M.Measure.lawful (settl
 
 pub returns-clause-answers : goal.returns-clause-answers
 returns-clause-answers g c = answers g.M.Measure.ops g.met.M.Measure.lawful (settled_state c.settle.result) c.settle.result.session.sound (best g c) _ (last g c)
+
+pub returns-clause-measure : goal.returns-clause-measure
+returns-clause-measure g c = ap (λ p. p.1) c.settle.ensures.parts ∙ c.loop-exchange.invariant.0
 
 pub returns-clause-levels : goal.returns-clause-levels
 returns-clause-levels g c = coarsest_level g.M.Measure.ops g.met.M.Measure.lawful

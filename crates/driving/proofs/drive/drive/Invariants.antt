@@ -1,6 +1,6 @@
 use Rattle.std.proofs.Common.{◌≡◌, ℕ, ◌≤◌, get_or}
 use Rattle.driving.specs.Runs.{RunTo, course_before}
-use Rattle.driving.specs.States.{is_settled, state_in}
+use Rattle.driving.specs.States.{is_settled, parts_in, state_in}
 use Rattle.driving.proofs.Running.{none}
 use Rattle.driving.proofs.drive.drive.Given as goal
 
@@ -9,6 +9,7 @@ abbrev pub invariant-loop-exchange : goal.invariant-loop-exchange
 invariant-loop-exchange g l =
     let m = g.N.Readable.meaning l.fn.network in
     let k = l.exchange-index in
-    (is_settled l.session ≡ (course_before m l.fn.exchanges k).settled)
+    ((parts_in l.session).1 ≡ l.fn.measure)
+    × (is_settled l.session ≡ (course_before m l.fn.exchanges k).settled)
     × ((run : RunTo g.M.Measure.ops m l.fn.exchanges l.exchanges k) × (run.state k ≡ state_in l.session))
     × ((j : ℕ) → k ≤ j → get_or l.exchanges j none ≡ get_or l.fn.exchanges j none)
