@@ -3,6 +3,7 @@
 --   is_settled   it has settled
 --   state_in     its state
 --   parts_in     its network and its measure
+--   is_put       the call is a put, which alone may alter the network
 --   course_in    whether it has settled, and the ties and colours that it has
 use Rattle.std.specs.Prelude.{Bool, true, false}
 use Rattle.network.specs.declared.interface.Readable as readable
@@ -12,6 +13,8 @@ use Rattle.session.specs.SettledSessions.{settled_state, settled_parts}
 use Rattle.session.specs.States.{State}
 use Rattle.driving.specs.Book.{book_in}
 use Rattle.driving.specs.Courses.{Course}
+use Rattle.driving.specs.declared.call.Call.{Call}
+use Rattle.driving.specs.declared.call.Call.TheVariants.{Put}
 use Rattle.driving.specs.declared.state.Session.{Session}
 use Rattle.driving.specs.declared.state.Session.TheVariants.{Open, Settled}
 
@@ -30,3 +33,7 @@ module _ {N M V : Type 0} {r : readable.Ghosts N} {g : measure.Ghosts M V} where
 
   abbrev pub course_in : Session N M V r g → Course
   course_in s = record { settled = is_settled s; book = book_in (state_in s) }
+
+abbrev pub is_put : Call → Bool
+is_put (Put i j b) = true
+is_put other = false

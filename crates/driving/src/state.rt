@@ -5,7 +5,7 @@ ghost use Rattle.session.specs.Sessions.{Ended};
 ghost use Rattle.session.specs.SettledSessions.{settled_parts, settled_state};
 ghost use Rattle.session.specs.States.{IsSound};
 ghost use Rattle.driving.specs.Courses.{course_after, settled_after};
-ghost use Rattle.driving.specs.States.{course_in, is_settled, parts_in, state_in};
+ghost use Rattle.driving.specs.States.{course_in, is_put, is_settled, parts_in, state_in};
 ghost use Rattle.driving.specs.Turns.{Turn};
 
 use super::call::{Call, Reply};
@@ -31,6 +31,7 @@ fn call_open<N: Editable, M: Measure>(
     ensures turn { let t = state_in result.0 in
         Turn M.Measure.ops false call.entry (state_of session) t area.old result.1 area.new }
     ensures measure { (parts_in result.0).1 ≡ (parts_of session).1 }
+    ensures network { is_put call.entry ≡ false → parts_in result.0 ≡ parts_of session }
 {
     let reply = match call {
         Call::Put(i, j, b) => Reply::Put(session.put(i, j, b)),
@@ -79,6 +80,7 @@ impl<N: Editable, M: Measure> Session<N, M> {
             Turn M.Measure.ops (is_settled self) call.entry s t area.old result.1 area.new }
         ensures sound { IsSound M.Measure.ops (state_in result.0) }
         ensures measure { (parts_in result.0).1 ≡ (parts_in self).1 }
+        ensures network { is_put call.entry ≡ false → parts_in result.0 ≡ parts_in self }
     {
         match self {
             Session::Open(session) => call_open(session, call, area),
