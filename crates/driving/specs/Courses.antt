@@ -1,4 +1,4 @@
--- What the calls alone tell of a session. Assumes nothing.
+-- What calls, and the network at the making, tell of a session. Assumes nothing.
 --
 --   takes            a session that is settled, or is not, takes the call
 --   settled_after    whether it is settled after a call
