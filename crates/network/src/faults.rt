@@ -12,6 +12,7 @@ pub enum Layer {
     Session,
     Question,
     Vet,
+    Script,
 }
 
 // Why a network refuses.

@@ -5,8 +5,8 @@ ghost use Rattle.question.specs.Checks.{line_check, lines_check, answer_start, C
 use super::faults::Fault;
 use super::line::Line;
 
-// Line `at`: its code, and then the lines that it names.
-fn check_line(at: usize, line: Line) -> Result<(), Fault>
+/// Line `at` of a question: its code (7), and then the lines that it names (8).
+pub fn check_line(at: usize, line: Line) -> Result<(), Fault>
     ensures { result ≡ line_check at line }
 {
     match line.claim() {
