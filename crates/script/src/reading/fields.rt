@@ -1,0 +1,65 @@
+// The fields of a record: each is a space, and then a number in base ten.
+ghost use Rattle.std.specs.Prelude.{◌≡◌, ◌≤◌, ◌==◌, length, OnSome};
+ghost use Rattle.script.specs.Fields.{after_field, byte_field, field, field_end, number};
+
+use std::str;
+
+// At most 65,535, without sign or leading zero.
+fn number(digits: &[u8]) -> Option<u16>
+    ensures { result ≡ number digits.now }
+{
+    // `parse` takes a plus in front, and leading zeros.
+    if digits.is_empty() || digits[0] == b'+' || (digits.len() > 1 && digits[0] == b'0') {
+        return None;
+    }
+    str::from_utf8(digits).ok()?.parse().ok()
+}
+
+// Where the number that these bytes begin with ends: at the next space, or with them.
+fn number_len(bytes: &[u8]) -> usize
+    ensures value { result ≡ field_end bytes.now }
+    ensures within { result ≤ length bytes.now }
+{
+    bytes.iter().take_while(|b| **b != b' ').count()
+}
+
+// What is left of a record.
+#[derive(Clone, Copy)]
+pub(super) struct Fields<'a> {
+    rest: &'a [u8],
+}
+
+impl<'a> Fields<'a> {
+    pub(super) fn of(rest: &'a [u8]) -> Fields<'a>
+        ensures { result.rest.now ≡ rest.now }
+    {
+        Fields { rest }
+    }
+
+    pub(super) fn is_empty(&self) -> bool
+        ensures { result ≡ (length self.now.rest.now == 0) }
+    {
+        self.rest.is_empty()
+    }
+
+    // The next field, none where it is missing or is no number.
+    pub(super) fn number(&mut self) -> Option<usize>
+        ensures value { result ≡ field self.old.rest.now }
+        ensures rest { OnSome result (self.new.rest.now ≡ after_field self.old.rest.now) }
+    {
+        let [b' ', after @ ..] = self.rest else {
+            return None;
+        };
+        let (digits, rest) = after.split_at(number_len(after));
+        self.rest = rest;
+        number(digits).map(usize::from)
+    }
+
+    // The next field, none where it is not at most 255.
+    pub(super) fn byte(&mut self) -> Option<u8>
+        ensures value { result ≡ byte_field self.old.rest.now }
+        ensures rest { OnSome result (self.new.rest.now ≡ after_field self.old.rest.now) }
+    {
+        u8::try_from(self.number()?).ok()
+    }
+}
