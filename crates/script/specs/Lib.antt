@@ -1,3 +1,5 @@
 pub mod Faults
 pub mod Fields
 pub mod Records
+pub mod Networks
+pub mod Drafts

@@ -8,3 +8,7 @@ pub mod faults;
 pub mod record;
 // From the bytes of a record to what it says.
 mod reading;
+// A network whose kind is chosen by the script.
+mod any_network;
+// A question that is added to.
+mod draft;
