@@ -1,2 +1,5 @@
 pub mod Numbers
 pub mod Drafts
+pub mod Settling
+pub mod Printing
+pub mod Asking

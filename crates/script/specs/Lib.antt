@@ -3,3 +3,5 @@ pub mod Fields
 pub mod Records
 pub mod Networks
 pub mod Drafts
+pub mod Words
+pub mod Listings

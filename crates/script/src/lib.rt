@@ -12,3 +12,5 @@ mod reading;
 mod any_network;
 // A question that is added to.
 mod draft;
+// What GO prints.
+mod listing;
