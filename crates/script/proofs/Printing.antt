@@ -22,5 +22,6 @@ nothing_printed (suc n) = rw (nothing_printed n) refl
 
 -- a question without lines is true of no node
 pub true_lines_none : {V : Type 0} (o : Operations V) (book : Book) (lines : List Line) → length lines ≡ 0 → true_lines o book lines ≡ []
+unfolding true_lines
 true_lines_none o book [] e = nothing_printed book.network.nodes
 true_lines_none o book (line ∷ lines) e = absurd (omega arith)

@@ -5,3 +5,4 @@ pub mod Networks
 pub mod Drafts
 pub mod Words
 pub mod Listings
+pub mod Works

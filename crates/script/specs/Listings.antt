@@ -31,14 +31,14 @@ module _ {V : Type 0} (o : Operations V) (book : Book) where
   abbrev pub split_total : ℕ
   split_total = role_total - roles book.colours book.network.nodes
 
-  abbrev pub settled_lines : List ℕ
+  unfoldable pub settled_lines : List ℕ
   settled_lines = settled_line role_total split_total ++ each_below (λ x. node_line x (heads x)) book.network.nodes
 
   abbrev pub is_true : List Line → ℕ → Bool
   is_true lines x = answer o book.network book.colours each_node lines x
 
-  abbrev pub true_lines : List Line → List ℕ
+  unfoldable pub true_lines : List Line → List ℕ
   true_lines lines = each_below (λ x. cond (is_true lines x) (true_line x) []) book.network.nodes
 
-  abbrev pub go_lines : List Line → List ℕ
+  unfoldable pub go_lines : List Line → List ℕ
   go_lines lines = settled_lines ++ true_lines lines

@@ -14,3 +14,5 @@ mod any_network;
 mod draft;
 // What GO prints.
 mod listing;
+// The work on a network.
+mod work;

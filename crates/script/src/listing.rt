@@ -28,6 +28,7 @@ fn head_of<N: Editable, M: Measure>(settled: &Settled<N, M>, x: usize) -> usize
     settled.role(settled.role_of(x).unwrap()).unwrap().head
 }
 
+#[tactic(auto, unfolding(crate::specs::Listings::settled_lines))]
 // How many roles and splits, and each node with the head of its role.
 pub(crate) fn print_roles<N: Editable, M: Measure>(
     settled: &Settled<N, M>,
@@ -44,6 +45,7 @@ pub(crate) fn print_roles<N: Editable, M: Measure>(
     Ok(())
 }
 
+#[tactic(auto, unfolding(crate::specs::Listings::true_lines))]
 // The nodes that the question is true of. The roles are asked.
 pub(crate) fn print_true<N: Editable, M: Measure>(
     settled: &Settled<N, M>,
