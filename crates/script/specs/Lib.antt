@@ -6,3 +6,4 @@ pub mod Drafts
 pub mod Words
 pub mod Listings
 pub mod Works
+pub mod Stages

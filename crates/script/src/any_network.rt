@@ -1,7 +1,7 @@
 // A network whose kind the script chooses.
-ghost use Rattle.std.specs.Prelude.{◌≡◌};
+ghost use Rattle.std.specs.Prelude.{◌≡◌, vec_len};
 ghost use Rattle.network.specs.Put.{put_after, put_answer};
-ghost use Rattle.script.specs.Networks.{meant};
+ghost use Rattle.script.specs.Networks.{matrix_named, meant, meant_in, two_mode_named};
 
 use network::faults::Fault;
 use network::interface::{Editable, Readable};
@@ -12,6 +12,24 @@ use network::two_mode::TwoMode;
 pub(crate) enum AnyNetwork {
     OneMode(Matrix),
     TwoMode(TwoMode),
+}
+
+impl AnyNetwork {
+    // The matrix of n nodes without ties, or the refusal of its making.
+    pub(crate) fn matrix(n: usize, memory: Vec<u8>) -> Result<AnyNetwork, Fault>
+        ensures { meant_in result ≡ matrix_named n (vec_len memory) }
+    {
+        Matrix::check(n, &memory)?;
+        Ok(AnyNetwork::OneMode(Matrix::new(n, memory)))
+    }
+
+    // Sides of a and b nodes without ties, or the refusal of their making.
+    pub(crate) fn two_mode(a: usize, b: usize, memory: Vec<u8>) -> Result<AnyNetwork, Fault>
+        ensures { meant_in result ≡ two_mode_named a b (vec_len memory) }
+    {
+        TwoMode::check(a, b, &memory)?;
+        Ok(AnyNetwork::TwoMode(TwoMode::new(a, b, memory)))
+    }
 }
 
 impl Readable for AnyNetwork {

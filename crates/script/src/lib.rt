@@ -16,3 +16,5 @@ mod draft;
 mod listing;
 // The work on a network.
 mod work;
+// What a record does.
+mod stage;

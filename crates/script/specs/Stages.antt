@@ -1,0 +1,67 @@
+-- What a record does at a stage. Assumes nothing.
+--
+--   Phase         what the script has named and told so far: nothing, a network, or a network and a measure with the book and the question
+--   phase_of      the phase of a stage of the program
+--   Outcome       the next phase and what is printed, or the refusal
+--   named         after a network record
+--   weighed       after a measure record
+--   does          what a record that says this does; a record that does not fit the phase is refused with 14
+--   phase_after   the phase after a record, refused or not
+--   answer_to     accepted, or the refusal
+--   printed_by    what an accepted record prints
+use Rattle.std.specs.Prelude.{ℕ, List, [], ◌∷◌, ◌++◌, Result, Ok, Err}
+use Rattle.network.specs.Meaning.{Meaning}
+use Rattle.network.specs.Put.{put_answer}
+use Rattle.network.specs.declared.faults.Fault as network
+use Rattle.question.specs.declared.line.Line.{Line}
+use Rattle.session.specs.Sessions.{colour_answer}
+use Rattle.driving.specs.Book.{Book, opened, after_put, after_colour}
+use Rattle.script.specs.Drafts.{add_answer}
+use Rattle.script.specs.Networks.{enough, matrix_named, meant, two_mode_named}
+use Rattle.script.specs.Records.{Said}
+use Rattle.script.specs.Words.{remark_line}
+use Rattle.script.specs.Works.{Weighing, book_of, go_by, weighed_by}
+use Rattle.script.specs.declared.faults.Reason.{Reason}
+use Rattle.script.specs.declared.stage.Stage.{Stage}
+use Rattle.script.specs.declared.stage.Stage.TheVariants as stage
+
+pub data Phase : Type 0 where
+  Network : Phase
+  Measure : Meaning → Phase
+  Work : Weighing → Book → List Line → Phase
+
+abbrev pub phase_of : Stage → Phase
+phase_of stage.Network = Phase.Network
+phase_of (stage.Measure network) = Phase.Measure (meant network)
+phase_of (stage.Work work question) = Phase.Work (weighed_by work) (book_of work) question.lines.items
+
+abbrev pub Outcome : Type 0
+Outcome = Result (Phase × List ℕ) Reason
+
+abbrev pub named : Result Meaning network.Fault → Outcome
+named made = elim made [ Ok m ↦ Ok (Phase.Measure m, []) | Err f ↦ Err (Reason.Network f) ]
+
+abbrev pub weighed : Meaning → Weighing → Outcome
+weighed m by = Ok (Phase.Work by (opened m) [], [])
+
+abbrev pub does : Phase → Said → Outcome
+does phase (Said.Remark text) = Ok (phase, remark_line text)
+does Phase.Network (Said.Matrix n) = named (matrix_named n enough)
+does Phase.Network (Said.TwoMode a b) = named (two_mode_named a b enough)
+does (Phase.Measure m) Said.Kinds = weighed m Weighing.Kinds
+does (Phase.Measure m) Said.Bundles = weighed m Weighing.Bundles
+does (Phase.Measure m) Said.Tally = weighed m Weighing.Tally
+does (Phase.Work by book lines) (Said.Put i j b) = elim (put_answer book.network i j b) [ Ok _ ↦ Ok (Phase.Work by (after_put book i j b) lines, []) | Err f ↦ Err (Reason.Network f) ]
+does (Phase.Work by book lines) (Said.Colour i c) = elim (colour_answer book.network.nodes i) [ Ok _ ↦ Ok (Phase.Work by (after_colour book i c) lines, []) | Err f ↦ Err (Reason.Session f) ]
+does (Phase.Work by book lines) (Said.Question line) = elim (add_answer lines line) [ Ok _ ↦ Ok (Phase.Work by book (lines ++ line ∷ []), []) | Err f ↦ Err (Reason.Question f) ]
+does (Phase.Work by book lines) Said.Go = Ok (Phase.Work by book [], go_by by book lines)
+does phase other = Err Reason.Stage
+
+abbrev pub phase_after : Phase → Said → Phase
+phase_after phase said = elim (does phase said) [ Ok next ↦ next.0 | Err _ ↦ phase ]
+
+abbrev pub answer_to : Phase → Said → Result (Unit {0}) Reason
+answer_to phase said = elim (does phase said) [ Ok _ ↦ Ok tt | Err why ↦ Err why ]
+
+abbrev pub printed_by : Phase → Said → List ℕ
+printed_by phase said = elim (does phase said) [ Ok next ↦ next.1 | Err _ ↦ [] ]

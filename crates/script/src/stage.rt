@@ -1,0 +1,110 @@
+// The stages of a script, and what a record does at each.
+ghost use Rattle.std.specs.Prelude.{◌≡◌, ◌++◌, IfOk, OnOk, vec_len};
+ghost use Rattle.script.specs.Networks.{enough, meant_in};
+ghost use Rattle.script.specs.Records.{said_in};
+ghost use Rattle.script.specs.Words.{remark_line};
+
+use super::any_network::AnyNetwork;
+use super::draft::Draft;
+use super::faults::Reason;
+use super::record::Record;
+use super::work::Work;
+use measure::bundles::Bundles;
+use measure::kinds::Kinds;
+use measure::tally::Tally;
+use session::open::Open;
+use std::alloc::{AllocError, Global};
+use std::io::{self, Write};
+
+// What the script names next, or works on.
+#[derive(Drop)]
+pub(crate) enum Stage {
+    Network,
+    Measure(AnyNetwork),
+    // The work, and the question so far.
+    Work(Work, Draft),
+}
+
+// Bytes enough for any network.
+fn memory(heap: Global) -> Result<Vec<u8>, AllocError>
+    ensures { IfOk result (λ bytes. vec_len bytes ≡ enough) }
+{
+    vec![in heap; 0; 16384]
+}
+
+fn print_remark(text: &[u8], out: &mut Vec<u8>) -> io::Result<()>
+    ensures { OnOk result (out.new.items ≡ out.old.items ++ remark_line text.now) }
+{
+    out.write_all(b"RM")?;
+    out.write_all(text)?;
+    out.write_all(b"\n")
+}
+
+impl Stage {
+    ghost use Rattle.script.specs.Stages.{answer_to, phase_after, phase_of, printed_by};
+
+    // The next stage, and the refusal where there is one; nothing is printed of it. The stage and
+    // the record decide together.
+    pub(crate) fn play(
+        self,
+        what: Record<'_>,
+        heap: Global,
+        out: &mut Vec<u8>,
+    ) -> io::Result<(Stage, Result<(), Reason>)>
+        ensures stage { let phase = phase_of self in
+            IfOk result (λ turn. phase_of turn.0 ≡ phase_after phase (said_in what.entry)) }
+        ensures answer { let phase = phase_of self in
+            IfOk result (λ turn. turn.1 ≡ answer_to phase (said_in what.entry)) }
+        ensures printed { let printed = printed_by (phase_of self) (said_in what.entry) in
+            OnOk result (out.new.items ≡ out.old.items ++ printed) }
+    {
+        let accepted = Ok(());
+        match (self, what) {
+            (stage, Record::Remark(text)) => {
+                print_remark(text, out)?;
+                Ok((stage, accepted))
+            }
+            (Stage::Network, Record::Matrix(n)) => {
+                match AnyNetwork::matrix(n, memory(heap)?) {
+                    Ok(network) => Ok((Stage::Measure(network), accepted)),
+                    Err(fault) => Ok((Stage::Network, Err(Reason::Network(fault)))),
+                }
+            }
+            (Stage::Network, Record::TwoMode(a, b)) => {
+                match AnyNetwork::two_mode(a, b, memory(heap)?) {
+                    Ok(network) => Ok((Stage::Measure(network), accepted)),
+                    Err(fault) => Ok((Stage::Network, Err(Reason::Network(fault)))),
+                }
+            }
+            (Stage::Measure(network), Record::Kinds) => {
+                let work = Work::ByKinds(Open::new(network, Kinds));
+                Ok((Stage::Work(work, Draft::new()), accepted))
+            }
+            (Stage::Measure(network), Record::Bundles) => {
+                let work = Work::ByBundles(Open::new(network, Bundles));
+                Ok((Stage::Work(work, Draft::new()), accepted))
+            }
+            (Stage::Measure(network), Record::Tally) => {
+                let work = Work::ByTally(Open::new(network, Tally));
+                Ok((Stage::Work(work, Draft::new()), accepted))
+            }
+            (Stage::Work(mut work, question), Record::Put(i, j, b)) => {
+                let answer = work.put(i, j, b).map_err(Reason::Network);
+                Ok((Stage::Work(work, question), answer))
+            }
+            (Stage::Work(mut work, question), Record::Colour(i, c)) => {
+                let answer = work.colour(i, c).map_err(Reason::Session);
+                Ok((Stage::Work(work, question), answer))
+            }
+            (Stage::Work(work, mut question), Record::Question(line)) => {
+                let answer = question.add(line).map_err(Reason::Question);
+                Ok((Stage::Work(work, question), answer))
+            }
+            (Stage::Work(work, question), Record::Go) => {
+                let work = work.go(question.lines(), out)?;
+                Ok((Stage::Work(work, Draft::new()), accepted))
+            }
+            (stage, _) => Ok((stage, Err(Reason::Stage))),
+        }
+    }
+}
