@@ -7,3 +7,4 @@ pub mod Words
 pub mod Listings
 pub mod Works
 pub mod Stages
+pub mod Transcripts

@@ -6,9 +6,10 @@
 --   named         after a network record
 --   weighed       after a measure record
 --   does          what a record that says this does; a record that does not fit the phase is refused with 14
---   phase_after   the phase after a record, refused or not
---   answer_to     accepted, or the refusal
---   printed_by    what an accepted record prints
+--   outcome       the same by the bytes of a record, or the refusal of its mark or its fields
+--   next_phase    the phase after a record, refused or not
+--   answer_in     accepted, or the refusal
+--   printed_in    what an accepted record prints
 use Rattle.std.specs.Prelude.{ℕ, List, [], ◌∷◌, ◌++◌, Result, Ok, Err}
 use Rattle.network.specs.Meaning.{Meaning}
 use Rattle.network.specs.Put.{put_answer}
@@ -18,7 +19,7 @@ use Rattle.session.specs.Sessions.{colour_answer}
 use Rattle.driving.specs.Book.{Book, opened, after_put, after_colour}
 use Rattle.script.specs.Drafts.{add_answer}
 use Rattle.script.specs.Networks.{enough, matrix_named, meant, two_mode_named}
-use Rattle.script.specs.Records.{Said}
+use Rattle.script.specs.Records.{Said, parse}
 use Rattle.script.specs.Words.{remark_line}
 use Rattle.script.specs.Works.{Weighing, book_of, go_by, weighed_by}
 use Rattle.script.specs.declared.faults.Reason.{Reason}
@@ -57,11 +58,15 @@ does (Phase.Work by book lines) (Said.Question line) = elim (add_answer lines li
 does (Phase.Work by book lines) Said.Go = Ok (Phase.Work by book [], go_by by book lines)
 does phase other = Err Reason.Stage
 
-abbrev pub phase_after : Phase → Said → Phase
-phase_after phase said = elim (does phase said) [ Ok next ↦ next.0 | Err _ ↦ phase ]
+-- what the bytes of a record do
+abbrev pub outcome : Phase → List ℕ → Outcome
+outcome phase line = elim (parse line) [ Ok said ↦ does phase said | Err why ↦ Err why ]
 
-abbrev pub answer_to : Phase → Said → Result (Unit {0}) Reason
-answer_to phase said = elim (does phase said) [ Ok _ ↦ Ok tt | Err why ↦ Err why ]
+abbrev pub next_phase : Phase → Outcome → Phase
+next_phase phase outcome = elim outcome [ Ok next ↦ next.0 | Err _ ↦ phase ]
 
-abbrev pub printed_by : Phase → Said → List ℕ
-printed_by phase said = elim (does phase said) [ Ok next ↦ next.1 | Err _ ↦ [] ]
+abbrev pub answer_in : Outcome → Result (Unit {0}) Reason
+answer_in outcome = elim outcome [ Ok _ ↦ Ok tt | Err why ↦ Err why ]
+
+abbrev pub printed_in : Outcome → List ℕ
+printed_in outcome = elim outcome [ Ok next ↦ next.1 | Err _ ↦ [] ]

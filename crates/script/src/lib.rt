@@ -18,3 +18,5 @@ mod listing;
 mod work;
 // What a record does.
 mod stage;
+// A whole script.
+pub mod run;

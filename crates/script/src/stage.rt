@@ -41,7 +41,7 @@ fn print_remark(text: &[u8], out: &mut Vec<u8>) -> io::Result<()>
 }
 
 impl Stage {
-    ghost use Rattle.script.specs.Stages.{answer_to, phase_after, phase_of, printed_by};
+    ghost use Rattle.script.specs.Stages.{answer_in, does, next_phase, phase_of, printed_in};
 
     // The next stage, and the refusal where there is one; nothing is printed of it. The stage and
     // the record decide together.
@@ -51,11 +51,11 @@ impl Stage {
         heap: Global,
         out: &mut Vec<u8>,
     ) -> io::Result<(Stage, Result<(), Reason>)>
-        ensures stage { let phase = phase_of self in
-            IfOk result (λ turn. phase_of turn.0 ≡ phase_after phase (said_in what.entry)) }
-        ensures answer { let phase = phase_of self in
-            IfOk result (λ turn. turn.1 ≡ answer_to phase (said_in what.entry)) }
-        ensures printed { let printed = printed_by (phase_of self) (said_in what.entry) in
+        ensures stage { let phase = phase_of self in let said = said_in what.entry in
+            IfOk result (λ turn. phase_of turn.0 ≡ next_phase phase (does phase said)) }
+        ensures answer { let said = said_in what.entry in
+            IfOk result (λ turn. turn.1 ≡ answer_in (does (phase_of self) said)) }
+        ensures printed { let printed = printed_in (does (phase_of self) (said_in what.entry)) in
             OnOk result (out.new.items ≡ out.old.items ++ printed) }
     {
         let accepted = Ok(());

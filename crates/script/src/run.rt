@@ -1,0 +1,64 @@
+// A whole script, record by record.
+ghost use Rattle.std.specs.Prelude.{◌≡◌, ◌++◌, ◌+◌, ◌<◌, ◌≤◌, length, IfOk, OnOk, OnErr};
+ghost use Rattle.std.specs.List.{after_first, before_first};
+ghost use Rattle.script.specs.Faults.{number};
+ghost use Rattle.script.specs.Transcripts.{newline, refusals, transcript};
+ghost use Rattle.script.specs.Stages.{answer_in, next_phase, outcome, phase_of, printed_in};
+ghost use Rattle.script.specs.Words.{refusal_line};
+
+use super::faults::{Fault, Reason};
+use super::reading::read;
+use super::stage::Stage;
+use std::alloc::Global;
+use std::io::{self, Write};
+
+// A script of more bytes is refused as a whole.
+const LIMIT: usize = 32_768;
+
+fn print_refusal(fault: Fault, out: &mut Vec<u8>) -> io::Result<()>
+    ensures { let line = refusal_line fault.«record» (number fault.reason) in
+        OnOk result (out.new.items ≡ out.old.items ++ line) }
+{
+    writeln!(out, "ER {} {}", fault.record, fault.reason.number())
+}
+
+// The first line, and what stands behind its line feed.
+fn cut(rest: &[u8]) -> (&[u8], &[u8])
+    ensures line { result.0.now ≡ before_first newline rest.now }
+    ensures after { result.1.now ≡ after_first newline rest.now }
+{
+    match rest.iter().position(|b| *b == b'\n') {
+        Some(end) => (&rest[..end], &rest[end + 1..]),
+        None => (rest, &[]),
+    }
+}
+
+// A script as far as it is played.
+#[derive(Drop)]
+struct Player {
+    stage: Stage,
+    // How many records there were, and where the next one begins.
+    count: usize,
+    offset: usize,
+    faults: Vec<Fault>,
+}
+
+// What the bytes of a record do: the next stage, and the refusal where there is one.
+fn step(
+    stage: Stage,
+    line: &[u8],
+    heap: Global,
+    out: &mut Vec<u8>,
+) -> io::Result<(Stage, Result<(), Reason>)>
+    ensures stage { let phase = phase_of stage in
+        IfOk result (λ turn. phase_of turn.0 ≡ next_phase phase (outcome phase line.now)) }
+    ensures answer { let did = outcome (phase_of stage) line.now in
+        IfOk result (λ turn. turn.1 ≡ answer_in did) }
+    ensures printed { let printed = printed_in (outcome (phase_of stage) line.now) in
+        OnOk result (out.new.items ≡ out.old.items ++ printed) }
+{
+    match read(line) {
+        Ok(what) => stage.play(what, heap, out),
+        Err(reason) => Ok((stage, Err(reason))),
+    }
+}
