@@ -1,1 +1,2 @@
 pub mod Numbers
+pub mod FieldLaw

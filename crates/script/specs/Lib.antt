@@ -1,3 +1,4 @@
 pub mod Faults
 pub mod Fields
+pub mod FieldLaw
 pub mod Records
