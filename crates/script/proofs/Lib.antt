@@ -3,3 +3,5 @@ pub mod Drafts
 pub mod Settling
 pub mod Printing
 pub mod Asking
+pub mod FieldLaw
+pub mod RecordLaw

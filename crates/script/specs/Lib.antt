@@ -1,5 +1,6 @@
 pub mod Faults
 pub mod Fields
+pub mod FieldLaw
 pub mod Records
 pub mod Networks
 pub mod Drafts
@@ -8,3 +9,4 @@ pub mod Listings
 pub mod Works
 pub mod Stages
 pub mod Transcripts
+pub mod RecordLaw

@@ -3,6 +3,8 @@ ghost use Rattle.std.specs.Prelude.{◌≡◌};
 ghost use Rattle.script.specs.Records.{ended, parse, said_in, shown};
 ghost use Rattle.script.specs.Records.{parse_and, parse_colour, parse_matrix, parse_not};
 ghost use Rattle.script.specs.Records.{parse_of_colour, parse_put, parse_tied, parse_two_mode};
+ghost use Rattle.script.specs.FieldLaw.{FieldLaw};
+ghost use Rattle.script.specs.RecordLaw.{RecordLaw};
 
 use super::faults::Reason;
 use super::record::Record;
@@ -126,8 +128,11 @@ fn read_tied(rest: &[u8]) -> Result<Record<'_>, Reason>
 }
 
 // What a record says, or the first no of: a known mark (12), fields right in number and form (13).
+#[tactic(auto, using(crate::proofs::FieldLaw::field_law, crate::proofs::RecordLaw::record_law))]
 pub(crate) fn read(line: &[u8]) -> Result<Record<'_>, Reason>
-    ensures { shown result ≡ parse line.now }
+    ensures said { shown result ≡ parse line.now }
+    ensures fields { FieldLaw }
+    ensures records { RecordLaw }
 {
     let [first, second, rest @ ..] = line else {
         return Err(Reason::Mark);
