@@ -2,7 +2,7 @@
 --
 --   add_answer     accepted, or the first no of: fewer than 32 lines before it (6), a known code (7), only earlier lines (8)
 --   lines_after    the lines after one was added, refused or not
-use Rattle.std.specs.Prelude.{ℕ, cond, nat_lt, List, [], ◌∷◌, ◌++◌, length, Result, Ok, Err}
+use Rattle.std.specs.Prelude.{cond, nat_lt, List, [], ◌∷◌, ◌++◌, length, Result, Ok, Err}
 use Rattle.question.specs.Checks.{line_check}
 use Rattle.question.specs.declared.line.Line.{Line}
 use Rattle.question.specs.declared.faults.Fault.{Fault}

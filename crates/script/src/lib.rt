@@ -2,6 +2,8 @@
 
 #![tactic(auto)]
 
+// Where bytes are cut.
+mod cutting;
 // Why a record is refused.
 pub mod faults;
 // What a record says.

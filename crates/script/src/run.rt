@@ -6,6 +6,7 @@ ghost use Rattle.script.specs.Transcripts.{newline, refusals, transcript};
 ghost use Rattle.script.specs.Stages.{answer_in, next_phase, outcome, phase_of, printed_in};
 ghost use Rattle.script.specs.Words.{refusal_line};
 
+use super::cutting::len_before;
 use super::faults::{Fault, Reason};
 use super::reading::read;
 use super::stage::Stage;
@@ -27,9 +28,10 @@ fn cut(rest: &[u8]) -> (&[u8], &[u8])
     ensures line { result.0.now ≡ before_first newline rest.now }
     ensures after { result.1.now ≡ after_first newline rest.now }
 {
-    match rest.iter().position(|b| *b == b'\n') {
-        Some(end) => (&rest[..end], &rest[end + 1..]),
-        None => (rest, &[]),
+    let (line, after) = rest.split_at(len_before(rest, b'\n'));
+    match after {
+        [_, after @ ..] => (line, after),
+        [] => (line, after),
     }
 }
 

@@ -1,7 +1,8 @@
 // The fields of a record: each is a space, and then a number in base ten.
-ghost use Rattle.std.specs.Prelude.{◌≡◌, ◌≤◌, ◌==◌, length, OnSome};
-ghost use Rattle.script.specs.Fields.{after_field, byte_field, field, field_end, number};
+ghost use Rattle.std.specs.Prelude.{◌≡◌, ◌==◌, length, OnSome};
+ghost use Rattle.script.specs.Fields.{after_field, byte_field, field, number};
 
+use crate::cutting::len_before;
 use std::str;
 
 // At most 65,535, without sign or leading zero.
@@ -13,14 +14,6 @@ fn number(digits: &[u8]) -> Option<u16>
         return None;
     }
     str::from_utf8(digits).ok()?.parse().ok()
-}
-
-// Where the number that these bytes begin with ends: at the next space, or with them.
-fn number_len(bytes: &[u8]) -> usize
-    ensures value { result ≡ field_end bytes.now }
-    ensures within { result ≤ length bytes.now }
-{
-    bytes.iter().take_while(|b| **b != b' ').count()
 }
 
 // What is left of a record.
@@ -50,7 +43,7 @@ impl<'a> Fields<'a> {
         let [b' ', after @ ..] = self.rest else {
             return None;
         };
-        let (digits, rest) = after.split_at(number_len(after));
+        let (digits, rest) = after.split_at(len_before(after, b' '));
         self.rest = rest;
         number(digits).map(usize::from)
     }

@@ -1,4 +1,4 @@
-use Rattle.std.proofs.Common.{rules, ◌∙◌}
+use Rattle.std.proofs.Common.{rules}
 use Rattle.session.specs.SettledSessions.{settled_state}
 use Rattle.script.proofs.Settling.{head_told}
 use Rattle.script.proofs.listing.head_of.Goals as goal

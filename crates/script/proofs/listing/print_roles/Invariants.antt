@@ -1,8 +1,8 @@
 use Rattle.std.proofs.Common.{◌≡◌, ◌++◌}
 use Rattle.driving.specs.Book.{book_in}
 use Rattle.session.specs.SettledSessions.{settled_state}
-use Rattle.script.specs.Listings.{each_below, heads, role_total, split_total}
-use Rattle.script.specs.Words.{node_line, settled_line}
+use Rattle.script.specs.Listings.{each_below, heads}
+use Rattle.script.specs.Words.{node_line}
 use Rattle.script.proofs.listing.print_roles.Given as goal
 
 -- the nodes before x are printed

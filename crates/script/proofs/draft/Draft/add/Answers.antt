@@ -1,4 +1,4 @@
-use Rattle.std.proofs.Common.{rules, sym, ◌∙◌}
+use Rattle.std.proofs.Common.{rules}
 use Rattle.script.proofs.Drafts.{passes_more}
 use Rattle.script.proofs.draft.Draft.add.Goals as goal
 
