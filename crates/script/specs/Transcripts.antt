@@ -5,6 +5,7 @@
 --   records       the lines of a script; the last one may lack its line feed
 --   Played        a script as far as it is played
 --   blank         before its first record
+--   went          after a record with this outcome
 --   play          after a record more
 --   fault_at      a refusal of the next record
 --   limit         how many bytes a script may have
@@ -15,7 +16,7 @@
 use Rattle.std.specs.Prelude.{ℕ, ◌+◌, Bool, cond, ◌==◌, nat_le, List, [], ◌∷◌, ◌++◌, length, fold, Ok, Err}
 use Rattle.std.specs.List.{slice_split}
 use Rattle.script.specs.Faults.{number}
-use Rattle.script.specs.Stages.{Phase, outcome}
+use Rattle.script.specs.Stages.{Outcome, Phase, outcome}
 use Rattle.script.specs.Words.{refusal_line}
 use Rattle.script.specs.declared.faults.Fault.{Fault}
 use Rattle.script.specs.declared.faults.Reason.{Reason}
@@ -46,9 +47,10 @@ blank = record { phase = Phase.Network; count = 0; offset = 0; printed = []; fau
 abbrev pub fault_at : Played → Reason → Fault
 fault_at p why = record { reason = why; «record» = p.count + 1; offset = p.offset }
 
-abbrev pub play : Played → List ℕ → Played
-play p line =
-    elim (outcome p.phase line) [
+-- refused, the phase is as it was, and one line is printed
+abbrev pub went : Played → List ℕ → Outcome → Played
+went p line outcome =
+    elim outcome [
       | Ok next ↦
           record {
             phase = next.0;
@@ -66,6 +68,9 @@ play p line =
             faults = p.faults ++ fault_at p why ∷ [];
           }
     ]
+
+abbrev pub play : Played → List ℕ → Played
+play p line = went p line (outcome p.phase line)
 
 abbrev pub limit : ℕ
 limit = 32768

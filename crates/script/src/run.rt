@@ -2,7 +2,7 @@
 ghost use Rattle.std.specs.Prelude.{◌≡◌, ◌++◌, ◌+◌, ◌<◌, ◌≤◌, length, IfOk, OnOk, OnErr};
 ghost use Rattle.std.specs.List.{after_first, before_first};
 ghost use Rattle.script.specs.Faults.{number};
-ghost use Rattle.script.specs.Transcripts.{newline, refusals, transcript};
+ghost use Rattle.script.specs.Transcripts.{limit, newline, play, refusals, transcript};
 ghost use Rattle.script.specs.Stages.{answer_in, next_phase, outcome, phase_of, printed_in};
 ghost use Rattle.script.specs.Words.{refusal_line};
 
@@ -35,16 +35,6 @@ fn cut(rest: &[u8]) -> (&[u8], &[u8])
     }
 }
 
-// A script as far as it is played.
-#[derive(Drop)]
-struct Player {
-    stage: Stage,
-    // How many records there were, and where the next one begins.
-    count: usize,
-    offset: usize,
-    faults: Vec<Fault>,
-}
-
 // What the bytes of a record do: the next stage, and the refusal where there is one.
 fn step(
     stage: Stage,
@@ -63,4 +53,81 @@ fn step(
         Ok(what) => stage.play(what, heap, out),
         Err(reason) => Ok((stage, Err(reason))),
     }
+}
+
+// A script as far as it is played.
+#[derive(Drop)]
+struct Player {
+    stage: Stage,
+    // How many records there were, and where the next one begins.
+    count: usize,
+    offset: usize,
+    faults: Vec<Fault>,
+}
+
+impl Player {
+    ghost use Rattle.script.specs.Players.{played_in};
+
+    // Plays a record more.
+    fn play(self, line: &[u8], heap: Global, out: &mut Vec<u8>) -> io::Result<Player>
+        requires few { self.count ≤ limit }
+        requires short { self.offset + length line.now ≤ limit + 1 }
+        ensures { IfOk result (λ next.
+            played_in next out.new.items ≡ play (played_in self out.old.items) line.now) }
+    {
+        let Player {
+            stage,
+            count,
+            offset,
+            mut faults,
+        } = self;
+        let (stage, answer) = step(stage, line, heap, out)?;
+        let count = count + 1;
+        if let Err(reason) = answer {
+            let fault = Fault {
+                reason,
+                record: count,
+                offset,
+            };
+            print_refusal(fault, out)?;
+            faults.push(fault)?;
+        }
+        Ok(Player {
+            stage,
+            count,
+            offset: offset + (line.len() + 1),
+            faults,
+        })
+    }
+}
+
+/// Runs a script: what it prints is appended to `out`, and its refusals are given in order. An
+/// error is want of memory, and `out` then ends anywhere in what the script prints.
+pub fn run(script: &[u8], heap: Global, out: &mut Vec<u8>) -> io::Result<Vec<Fault>>
+    ensures printed { OnOk result (out.new.items ≡ out.old.items ++ transcript script.now) }
+    ensures refusals { IfOk result (λ faults. faults.items ≡ refusals script.now) }
+{
+    let mut player = Player {
+        stage: Stage::Network,
+        count: 0,
+        offset: 0,
+        faults: Vec::new(heap),
+    };
+    if script.len() > LIMIT {
+        let fault = Fault {
+            reason: Reason::Length,
+            record: 0,
+            offset: 0,
+        };
+        print_refusal(fault, out)?;
+        player.faults.push(fault)?;
+        return Ok(player.faults);
+    }
+    let mut rest = script;
+    while !rest.is_empty() {
+        let (line, after) = cut(rest);
+        player = player.play(line, heap, out)?;
+        rest = after;
+    }
+    Ok(player.faults)
 }
