@@ -6,3 +6,5 @@ pub mod Asking
 pub mod FieldLaw
 pub mod RecordLaw
 pub mod Playing
+pub mod Sequences
+pub mod RefusedLaw
