@@ -71,7 +71,7 @@ impl Player {
     // Plays a record more.
     fn play(self, line: &[u8], heap: Global, out: &mut Vec<u8>) -> io::Result<Player>
         requires few { self.count ≤ limit }
-        requires short { self.offset + length line.now ≤ limit + 1 }
+        requires short { self.offset + length line.now ≤ limit }
         ensures { IfOk result (λ next.
             played_in next out.new.items ≡ play (played_in self out.old.items) line.now) }
     {
