@@ -5,3 +5,5 @@ pub mod Printing
 pub mod Asking
 pub mod FieldLaw
 pub mod RecordLaw
+pub mod FormsLaw
+pub mod Sample

@@ -10,3 +10,5 @@ pub mod Works
 pub mod Stages
 pub mod Transcripts
 pub mod RecordLaw
+pub mod FormsLaw
+pub mod Sample
