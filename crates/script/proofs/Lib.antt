@@ -9,3 +9,5 @@ pub mod Playing
 pub mod Sequences
 pub mod RefusedLaw
 pub mod Cuts
+pub mod FormsLaw
+pub mod Sample

@@ -12,3 +12,5 @@ pub mod Transcripts
 pub mod RecordLaw
 pub mod Players
 pub mod RefusedLaw
+pub mod FormsLaw
+pub mod Sample
