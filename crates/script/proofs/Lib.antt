@@ -7,3 +7,4 @@ pub mod FieldLaw
 pub mod RecordLaw
 pub mod Sequences
 pub mod RefusedLaw
+pub mod SequenceLaw

@@ -11,3 +11,4 @@ pub mod Stages
 pub mod Transcripts
 pub mod RecordLaw
 pub mod RefusedLaw
+pub mod SequenceLaw
