@@ -11,3 +11,4 @@ pub mod RefusedLaw
 pub mod Cuts
 pub mod FormsLaw
 pub mod Sample
+pub mod SequenceLaw

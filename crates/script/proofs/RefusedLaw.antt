@@ -1,12 +1,13 @@
 -- What a refusal leaves, and what is refused for its stage or its form. Assumes nothing.
 --
---   after_outcome    a script after a record of this outcome
 --   Beneath          a refusal of a layer below
+--   Formal           a refusal of the mark or the fields
 --   Deep             an outcome that is refused by a layer below or not at all
 --   Decided          what comes of what belongs to the phase, and of what does not
 --   acted            what is done by what was read
+--   Told             what is read of a record
 --   Unread           what is read is refused only for its mark or its fields
-use Rattle.std.proofs.Common.{◌≡◌, ◌⊎◌, ◌↔◌, ℕ, ◌+◌, Bool, true, false, cond, eqb, ltb, List, [], ◌∷◌, ◌++◌, length, drop, codes, Option, Some, None, Result, Ok, Err, refl, ap, inl, inr, ⊎_elim}
+use Rattle.std.proofs.Common.{◌≡◌, ◌⊎◌, ◌↔◌, ℕ, Bool, true, false, cond, eqb, ltb, List, [], ◌∷◌, ◌++◌, length, drop, codes, Option, Some, None, Result, Ok, Err, refl, ap, inl, inr, ⊎_elim}
 use Rattle.std.specs.Result.{MatchResult}
 use Rattle.std.proofs.lemmas.Result.{MatchResult-at_err}
 use Rattle.network.specs.Meaning.{Meaning}
@@ -17,22 +18,14 @@ use Rattle.session.specs.Sessions.{colour_answer}
 use Rattle.session.specs.declared.faults.Fault as session
 use Rattle.driving.specs.Book.{after_put, after_colour}
 use Rattle.script.specs.Drafts.{add_answer}
-use Rattle.script.specs.Faults.{number}
 use Rattle.script.specs.Fields.{field, byte_field, after_field}
 use Rattle.script.specs.Networks.{enough, matrix_named, two_mode_named}
 use Rattle.script.specs.Records.{Said, parse, parse_matrix, parse_two_mode, parse_put, parse_colour, parse_of_colour, parse_not, parse_and, parse_tied, after, after_byte, ended, is_mark}
 use Rattle.script.specs.Stages.{Phase, Outcome, named, does, outcome}
 use Rattle.script.specs.RefusedLaw.{Refused, Accepted, RefusedLaw, belongs, StageLaw, OrderLaw}
-use Rattle.script.specs.Transcripts.{Played, play, fault_at}
-use Rattle.script.specs.Words.{refusal_line}
+use Rattle.script.specs.Transcripts.{Played, play}
 use Rattle.script.specs.declared.faults.Reason.{Reason}
-
-abbrev after_outcome : Played → List ℕ → Outcome → Played
-after_outcome p line did =
-    elim did [
-      | Ok next ↦ record { phase = next.0; count = p.count + 1; offset = p.offset + (length line + 1); printed = p.printed ++ next.1; faults = p.faults }
-      | Err why ↦ record { phase = p.phase; count = p.count + 1; offset = p.offset + (length line + 1); printed = p.printed ++ refusal_line (p.count + 1) (number why); faults = p.faults ++ fault_at p why ∷ [] }
-    ]
+use Rattle.script.proofs.Sequences.{after_outcome}
 
 each_of : (p : Played) (line : List ℕ) (did : Outcome) → outcome p.phase line ≡ did → MatchResult did (Accepted p line) (Refused p line)
 each_of p line (Ok next) is =

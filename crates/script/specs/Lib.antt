@@ -14,3 +14,4 @@ pub mod Players
 pub mod RefusedLaw
 pub mod FormsLaw
 pub mod Sample
+pub mod SequenceLaw
