@@ -1,5 +1,5 @@
 -- The first line of a script, and what stands behind it. Assumes nothing.
-use Rattle.std.proofs.Common.{rules, ◌≡◌, ℕ, Bool, false, ◌==◌, [], ◌∷◌, ◌+◌, ◌<◌, ◌≤◌, List, length, length-drop, ap, inl, inr, arith}
+use Rattle.std.proofs.Common.{rules, ◌≡◌, ℕ, Bool, true, false, refl, ◌==◌, [], ◌∷◌, ◌+◌, ◌<◌, ◌≤◌, List, length, length-drop, ap, inl, inr, arith}
 use Rattle.std.specs.List.{after_first, before_first, position_or_len}
 use Rattle.std.proofs.lemmas.Bool.{cases_lt}
 use Rattle.std.proofs.lemmas.List.{length-take-le, take_all}
@@ -27,3 +27,7 @@ cut_length bytes more =
 pub some_left : (bytes : List ℕ) (none : Bool) → none ≡ (length bytes == 0) → none ≡ false → 0 < length bytes
 some_left [] none is off = absurd (search rules)
 some_left (b ∷ bytes) none is off = omega arith
+
+pub none_left : (bytes : List ℕ) (none : Bool) → none ≡ (length bytes == 0) → none ≡ true → bytes ≡ []
+none_left [] none is at_end = refl
+none_left (b ∷ bytes) none is at_end = absurd (search rules)

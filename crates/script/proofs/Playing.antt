@@ -33,11 +33,3 @@ module _ (p : Played) (line : List ℕ) where
       let same : why ≡ reason = search rules in
       let nothing : printed ≡ p.printed ++ refusal_line (p.count + 1) (number why) = told ∙ ap (λ v. v ++ refusal_line (p.count + 1) (number reason)) (append-nil p.printed) ∙ ap (λ r. p.printed ++ refusal_line (p.count + 1) (number r)) (sym same) in
       λ i. next (to i) (nothing i) ((more ∙ ap (λ r. p.faults ++ fault_at p r ∷ []) (sym same)) i)
-
-  pub count_after : (o : Outcome) → (went p line o).count ≡ p.count + 1
-  count_after (Ok after) = refl
-  count_after (Err why) = refl
-
-  pub offset_after : (o : Outcome) → (went p line o).offset ≡ p.offset + (length line + 1)
-  offset_after (Ok after) = refl
-  offset_after (Err why) = refl

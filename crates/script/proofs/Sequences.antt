@@ -1,6 +1,6 @@
 -- Scripts in sequence. Assumes nothing.
 --
---   after_outcome    a script after a record of this outcome
+--   went    a script after a record of this outcome
 --   ahead            the same with this printed and refused before it
 --   width            how many bytes a record takes, with its line feed
 use Rattle.std.proofs.Common.{◌≡◌, ℕ, ◌+◌, ◌<◌, Bool, true, false, eqb, List, [], ◌∷◌, ◌++◌, length, Ok, Err, refl, ap, ◌∙◌, inl, inr, append_assoc, arith}
@@ -13,7 +13,7 @@ use Rattle.std.proofs.lemmas.List.Splits.{length-slice_split, slice_split_first,
 use Rattle.script.specs.Faults.{number}
 use Rattle.script.specs.SequenceLaw.{afresh}
 use Rattle.script.specs.Stages.{Outcome, outcome}
-use Rattle.script.specs.Transcripts.{Played, fault_at, newline, play, records, unless_empty}
+use Rattle.script.specs.Transcripts.{Played, fault_at, newline, play, records, unless_empty, went}
 use Rattle.script.specs.Words.{refusal_line}
 use Rattle.script.specs.declared.faults.Fault.{Fault}
 
@@ -69,18 +69,11 @@ records_ended a = records_before a [] ∙ append-nil (slice_split newline a)
 pub records_cut : (a b : List ℕ) → records (a ++ 10 ∷ b) ≡ records (a ++ 10 ∷ []) ++ records b
 records_cut a b = rw (records_ended a) (records_before a b)
 
-abbrev pub after_outcome : Played → List ℕ → Outcome → Played
-after_outcome p line did =
-    elim did [
-      | Ok next ↦ record { phase = next.0; count = p.count + 1; offset = p.offset + (length line + 1); printed = p.printed ++ next.1; faults = p.faults }
-      | Err why ↦ record { phase = p.phase; count = p.count + 1; offset = p.offset + (length line + 1); printed = p.printed ++ refusal_line (p.count + 1) (number why); faults = p.faults ++ fault_at p why ∷ [] }
-    ]
-
 module _ (printed : List ℕ) (faults : List Fault) where
   abbrev ahead : Played → Played
   ahead p = record { phase = p.phase; count = p.count; offset = p.offset; printed = printed ++ p.printed; faults = faults ++ p.faults }
 
-  after_ahead : (p : Played) (line : List ℕ) (did : Outcome) → after_outcome (ahead p) line did ≡ ahead (after_outcome p line did)
+  after_ahead : (p : Played) (line : List ℕ) (did : Outcome) → went (ahead p) line did ≡ ahead (went p line did)
   after_ahead p line (Ok next) = simp append_assoc
   after_ahead p line (Err why) = simp append_assoc
 
@@ -112,14 +105,14 @@ offset_on p rs = ap (λ (q : Played). q.offset) (played_on p rs)
 pub count_after : (p : Played) (line : List ℕ) → (play p line).count ≡ p.count + 1
 count_after p line = by_outcome (outcome p.phase line)
   where
-    by_outcome : (did : Outcome) → (after_outcome p line did).count ≡ p.count + 1
+    by_outcome : (did : Outcome) → (went p line did).count ≡ p.count + 1
     by_outcome (Ok next) = refl
     by_outcome (Err why) = refl
 
 pub offset_after : (p : Played) (line : List ℕ) → (play p line).offset ≡ p.offset + (length line + 1)
 offset_after p line = by_outcome (outcome p.phase line)
   where
-    by_outcome : (did : Outcome) → (after_outcome p line did).offset ≡ p.offset + (length line + 1)
+    by_outcome : (did : Outcome) → (went p line did).offset ≡ p.offset + (length line + 1)
     by_outcome (Ok next) = refl
     by_outcome (Err why) = refl
 
