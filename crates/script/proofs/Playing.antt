@@ -1,5 +1,5 @@
 -- A record that is played. Assumes nothing.
-use Rattle.std.proofs.Common.{◌≡◌, ℕ, ◌+◌, List, [], ◌∷◌, ◌++◌, length, Result, Ok, Err, append-nil, refl, sym, ap, ◌∙◌, rules}
+use Rattle.std.proofs.Common.{◌≡◌, ℕ, ◌+◌, List, [], ◌∷◌, ◌++◌, length, Ok, Err, append-nil, sym, ap, ◌∙◌, rules}
 use Rattle.script.specs.Faults.{number}
 use Rattle.script.specs.Stages.{Outcome, Phase, answer_in, next_phase, printed_in}
 use Rattle.script.specs.Transcripts.{Played, fault_at, went}

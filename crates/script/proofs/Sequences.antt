@@ -10,11 +10,9 @@ use Rattle.std.proofs.lemmas.Bool.Decides.{nat_tests}
 use Rattle.std.proofs.lemmas.List.{append-nil, drop_all, take_all, length-append}
 use Rattle.std.proofs.lemmas.List.Sums.{fails_before_first, sum_by-cons}
 use Rattle.std.proofs.lemmas.List.Splits.{length-slice_split, slice_split_first, slice_split_none}
-use Rattle.script.specs.Faults.{number}
 use Rattle.script.specs.SequenceLaw.{afresh}
 use Rattle.script.specs.Stages.{Outcome, outcome}
-use Rattle.script.specs.Transcripts.{Played, fault_at, newline, play, records, unless_empty, went}
-use Rattle.script.specs.Words.{refusal_line}
+use Rattle.script.specs.Transcripts.{Played, newline, play, records, unless_empty, went}
 use Rattle.script.specs.declared.faults.Fault.{Fault}
 
 unless_empty_part : (part : List ℕ) (parts : List (List ℕ)) → 0 < length parts → unless_empty (part ∷ parts) ≡ part ∷ unless_empty parts

@@ -9,7 +9,7 @@ pub mod faults;
 // What a record says.
 pub mod record;
 // From the bytes of a record to what it says.
-mod reading;
+pub mod reading;
 // A network whose kind is chosen by the script.
 mod any_network;
 // A question that is added to.

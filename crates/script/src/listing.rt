@@ -28,8 +28,8 @@ fn head_of<N: Editable, M: Measure>(settled: &Settled<N, M>, x: usize) -> usize
     settled.role(settled.role_of(x).unwrap()).unwrap().head
 }
 
-#[tactic(auto, unfolding(crate::specs::Listings::settled_lines))]
 // How many roles and splits, and each node with the head of its role.
+#[tactic(auto, unfolding(crate::specs::Listings::settled_lines))]
 pub(crate) fn print_roles<N: Editable, M: Measure>(
     settled: &Settled<N, M>,
     out: &mut Vec<u8>,
@@ -45,8 +45,8 @@ pub(crate) fn print_roles<N: Editable, M: Measure>(
     Ok(())
 }
 
-#[tactic(auto, unfolding(crate::specs::Listings::true_lines))]
 // The nodes that the question is true of. The roles are asked.
+#[tactic(auto, unfolding(crate::specs::Listings::true_lines))]
 pub(crate) fn print_true<N: Editable, M: Measure>(
     settled: &Settled<N, M>,
     question: &[Line],

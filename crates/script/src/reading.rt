@@ -127,9 +127,9 @@ fn read_tied(rest: &[u8]) -> Result<Record<'_>, Reason>
     fields.end(Record::Question(Line::tied(k, t)))
 }
 
-// What a record says, or the first no of: a known mark (12), fields right in number and form (13).
+/// What a record says, or the first no of: a known mark (12), fields right in number and form (13).
 #[tactic(auto, using(crate::proofs::FieldLaw::field_law, crate::proofs::RecordLaw::record_law))]
-pub(crate) fn read(line: &[u8]) -> Result<Record<'_>, Reason>
+pub fn read(line: &[u8]) -> Result<Record<'_>, Reason>
     ensures said { shown result ≡ parse line.now }
     ensures fields { FieldLaw }
     ensures records { RecordLaw }

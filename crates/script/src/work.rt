@@ -20,8 +20,8 @@ use question::line::Line;
 use session::open::Open;
 use std::io;
 
-#[tactic(auto, unfolding(crate::specs::Listings::go_lines))]
 // Settles, lists and asks, and opens again.
+#[tactic(auto, unfolding(crate::specs::Listings::go_lines))]
 fn go<N: Editable + Drop, M: Measure + Drop>(
     session: Open<N, M>,
     question: &[Line],

@@ -1,7 +1,7 @@
-use Rattle.std.proofs.Common.{rules, ◌≡◌, ℕ, List, [], true, cond, nat_le, ◌+◌, ◌<◌, ◌≤◌, fold, sym, ap, ◌∙◌, length, arith}
+use Rattle.std.proofs.Common.{◌≡◌, true, nat_le, fold, sym, ap, ◌∙◌, length, arith}
 use Rattle.std.proofs.lemmas.Bool.Decides.{nat_tests}
 use Rattle.script.specs.Players.{played_in}
-use Rattle.script.specs.Transcripts.{Played, blank, limit, play, records, refusals, transcript}
+use Rattle.script.specs.Transcripts.{Played, blank, limit, play, records}
 use Rattle.script.proofs.Cuts.{after_shorter, cut_length, none_left, some_left}
 use Rattle.script.proofs.Sequences.{count_after, faults_on, offset_after, printed_on, records_first}
 use Rattle.script.proofs.run.run.Goals as goal
@@ -16,10 +16,9 @@ loop-rest-preserved c =
     let after = ap length c.cut.ensures.after in
     let played = c.in_ok-player.ensures in
     let count = ap (λ (q : Played). q.count) played ∙ count_after p c.cut.result.0.now in
-    let offset = ap (λ (q : Played). q.offset) played ∙ offset_after p c.cut.result.0.now in
-    (
+    let offset = ap (λ (q : Played). q.offset) played ∙ offset_after p c.cut.result.0.now in (
       rw played
-      (rw (c.cut.ensures.line, c.cut.ensures.after) (ap (λ rs. fold play p rs) (sym (records_first rest some)) ∙ i.0)),
+          (rw (c.cut.ensures.line, c.cut.ensures.after) (ap (λ rs. fold play p rs) (sym (records_first rest some)) ∙ i.0)),
       omega (arith, i.1, count, after, after_shorter rest some),
       λ more. omega (arith, i.2 some, offset, line, after, cut_length rest (omega (arith, more, after))),
     )
