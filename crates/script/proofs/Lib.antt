@@ -5,3 +5,4 @@ pub mod Printing
 pub mod Asking
 pub mod FieldLaw
 pub mod RecordLaw
+pub mod ListedLaw

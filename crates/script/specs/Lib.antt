@@ -10,3 +10,4 @@ pub mod Works
 pub mod Stages
 pub mod Transcripts
 pub mod RecordLaw
+pub mod ListedLaw
