@@ -6,3 +6,4 @@ pub mod Asking
 pub mod FieldLaw
 pub mod RecordLaw
 pub mod ListedLaw
+pub mod BooksLaw

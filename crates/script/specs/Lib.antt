@@ -11,3 +11,4 @@ pub mod Stages
 pub mod Transcripts
 pub mod RecordLaw
 pub mod ListedLaw
+pub mod BooksLaw
