@@ -5,7 +5,6 @@
 --   Middle     the story from there on
 use Rattle.std.proofs.Common.{◌≡◌, ℕ, ◌+◌, ◌*◌, ◌<◌, ◌≤◌, Bool, true, false, cond, eqb, ltb, leb, ◌&&◌, List, [], ◌∷◌, ◌++◌, Result, Ok, Err, refl, sym, ap, subst, ◌∙◌, arith}
 use Rattle.std.specs.Prelude.{fold}
-use Rattle.std.specs.List.{flat_map}
 use Rattle.std.proofs.lemmas.Bool.Decides.{nat_tests}
 use Rattle.std.proofs.lemmas.List.Elements.{All-nil, All-cons}
 use Rattle.std.proofs.lemmas.Nat.{mul-le}
@@ -20,7 +19,7 @@ use Rattle.driving.specs.Book.{Book, opened, after_put, after_colour}
 use Rattle.driving.specs.Courses.{book_after}
 use Rattle.driving.specs.declared.call.Call.{Call}
 use Rattle.driving.proofs.Turning.{book_same}
-use Rattle.script.specs.BooksLaw.{Names, Chooses, Silent, First, edit, fed, drafted, asked, Story, BooksLaw}
+use Rattle.script.specs.BooksLaw.{Names, Chooses, Silent, First, edit, edits, fed, drafted, asked, Story, BooksLaw}
 use Rattle.script.specs.Drafts.{add_answer, lines_after}
 use Rattle.script.specs.Networks.{enough, matrix_named, two_mode_named}
 use Rattle.script.specs.Records.{Said, parse}
@@ -103,13 +102,15 @@ edit_first book (Ok (Said.Put i j b)) more = refl
 edit_first book (Ok (Said.Colour i c)) more = refl
 edit_first book other more = refl
 
-from_work : (rs : List (List ℕ)) (p : Played) (by : Weighing) (book : Book) (lines : List Line) → p.phase ≡ Phase.Work by book lines → (fold play p rs).phase ≡ Phase.Work by (fold book_after book (flat_map (λ line. edit (parse line)) rs)) (fold (λ lines line. drafted lines (parse line)) lines rs)
+abbrev asked_from : List Line → List (List ℕ) → List Line
+asked_from lines rs = fold (λ lines line. drafted lines (parse line)) lines rs
+
+from_work : (rs : List (List ℕ)) (p : Played) (by : Weighing) (book : Book) (lines : List Line) → p.phase ≡ Phase.Work by book lines → (fold play p rs).phase ≡ Phase.Work by (fold book_after book (edits rs)) (asked_from lines rs)
 from_work [] p by book lines e = e
 from_work (line ∷ rs) p by book lines e =
     let next = play_phase p line ∙ ap (λ phase. turn phase (parse line)) e ∙ worked by book lines (parse line) in
-    let more = edit_first book (parse line) (flat_map (λ line. edit (parse line)) rs) in
     from_work rs (play p line) by (fold book_after book (edit (parse line))) (drafted lines (parse line)) next
-    ∙ ap (λ b. Phase.Work by b (fold (λ lines line. drafted lines (parse line)) (drafted lines (parse line)) rs)) (sym more)
+    ∙ ap (λ b. Phase.Work by b (asked_from lines (line ∷ rs))) (sym (edit_first book (parse line) (edits rs)))
 
 abbrev Measured : Meaning → Result Said Reason → Phase → Type 0
 Measured m said Phase.Network = ⊥

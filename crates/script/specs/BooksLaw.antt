@@ -3,9 +3,10 @@
 --   Names        the record names this network without ties: a matrix of 1 to 128 nodes, or a node on each side and at most 128 in all
 --   Chooses      the record chooses this measure
 --   Silent       none of the records says a thing of this sort
---   First        the first record that does says x, and `since` stands behind it
---   edit         the call of a session that the record is, or none
---   fed          the book of the network at the making, fed each edit
+--   First        the first record that does says x, and these records stand behind it
+--   edit         the call of a session that the record is, or none: a put or a colour
+--   edits        those of the records, in order
+--   fed          the book at the making, fed each edit
 --   drafted      the question after the record: a line more where it is accepted, no line after GO
 --   asked        the question that the records leave
 --   Working      the first record that names a network, the first one behind it that chooses a measure, and what is said since
@@ -43,10 +44,10 @@ Chooses other by = ⊥
 abbrev pub Silent : {X : Type 0} → (Result Said Reason → X → Type 0) → List (List ℕ) → Type 0
 Silent {X} Says rs = All (λ line. (x : X) → Says (parse line) x → ⊥) rs
 
-pub record First {X : Type 0} (Says : Result Said Reason → X → Type 0) (rs : List (List ℕ)) (x : X) (since : List (List ℕ)) : Type 0 where
+pub record First {X : Type 0} (Says : Result Said Reason → X → Type 0) (rs : List (List ℕ)) (x : X) (behind : List (List ℕ)) : Type 0 where
   pub before : List (List ℕ)
   pub line : List ℕ
-  pub parts : rs ≡ before ++ line ∷ since
+  pub parts : rs ≡ before ++ line ∷ behind
   pub silent : Silent Says before
   pub says : Says (parse line) x
 
@@ -55,9 +56,12 @@ edit (Ok (Said.Put i j b)) = Call.Put i j b ∷ []
 edit (Ok (Said.Colour i c)) = Call.Colour i c ∷ []
 edit other = []
 
+abbrev pub edits : List (List ℕ) → List Call
+edits rs = flat_map (λ line. edit (parse line)) rs
+
 -- an edit that is refused leaves the book as it is
 abbrev pub fed : Meaning → List (List ℕ) → Book
-fed m since = fold book_after (opened m) (flat_map (λ line. edit (parse line)) since)
+fed m since = fold book_after (opened m) (edits since)
 
 abbrev pub drafted : List Line → Result Said Reason → List Line
 drafted lines (Ok (Said.Question line)) = lines_after lines line
