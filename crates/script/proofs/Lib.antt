@@ -12,3 +12,5 @@ pub mod Cuts
 pub mod FormsLaw
 pub mod Sample
 pub mod SequenceLaw
+pub mod ListedLaw
+pub mod BooksLaw

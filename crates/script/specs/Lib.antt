@@ -15,3 +15,5 @@ pub mod RefusedLaw
 pub mod FormsLaw
 pub mod Sample
 pub mod SequenceLaw
+pub mod ListedLaw
+pub mod BooksLaw

@@ -1,0 +1,47 @@
+-- What GO prints is the coarsest table of the book. Assumes nothing.
+use Rattle.std.proofs.Common.{◌≡◌, ◌+◌, List, length, refl, ap, arith}
+use Rattle.measure.specs.Measures.{Laws, Operations}
+use Rattle.measure.specs.BundleLaws.{bundles_laws}
+use Rattle.measure.specs.KindLaws.{kinds_laws}
+use Rattle.measure.specs.TallyLaws.{tally_laws}
+use Rattle.equivalence.specs.Coarsest.{roles}
+use Rattle.equivalence.proofs.Levels.{coarsest_level, named_lowest}
+use Rattle.equivalence.proofs.Refinement.{roles_le}
+use Rattle.question.specs.declared.line.Line.{Line}
+use Rattle.driving.specs.Book.{Book}
+use Rattle.script.specs.Listings.{heads, role_total, split_total, settled_lines, true_lines, go_lines, each_below}
+use Rattle.script.specs.ListedLaw.{Listed, ListedBy, ListedLaw}
+use Rattle.script.specs.Words.{node_line}
+use Rattle.script.specs.Works.{Weighing, go_by}
+use Rattle.script.proofs.Printing.{true_lines_none}
+
+module _ {V : Type 0} (o : Operations V) (laws : Laws o) (book : Book) where
+  split_counted : split_total o book + roles book.colours book.network.nodes ≡ role_total o book
+  split_counted =
+      let fewer = roles_le book.network.nodes (heads o book) book.colours (coarsest_level o laws book.network book.colours).within in
+      omega (arith, fewer)
+
+  go_listed : (lines : List Line) → Listed o book lines (go_lines o book lines)
+  unfolding go_lines settled_lines true_lines
+  go_listed lines =
+      record {
+        role = heads o book;
+        splits = split_total o book;
+        of_nodes = each_below (λ x. node_line x (heads o book x)) book.network.nodes;
+        of_question = true_lines o book lines;
+        parts = refl;
+        nodes = refl;
+        coarsest = coarsest_level o laws book.network book.colours;
+        heads = named_lowest o laws book.network book.colours;
+        counted = split_counted;
+        asked = refl;
+        unasked = λ none. true_lines_none o book lines (ap (λ (ls : List Line). length ls) none);
+      }
+
+go_listed_by : (by : Weighing) (book : Book) (lines : List Line) → ListedBy by book lines (go_by by book lines)
+go_listed_by Weighing.Kinds = go_listed _ kinds_laws
+go_listed_by Weighing.Bundles = go_listed _ bundles_laws
+go_listed_by Weighing.Tally = go_listed _ tally_laws
+
+pub listed_law : ListedLaw
+listed_law = record { listed = go_listed_by }
