@@ -12,5 +12,7 @@ pub mod Cuts
 pub mod FormsLaw
 pub mod Sample
 pub mod SequenceLaw
-pub mod ListedLaw
+pub mod Listed
 pub mod BooksLaw
+pub mod GoLaw
+pub mod Laws

@@ -15,5 +15,7 @@ pub mod RefusedLaw
 pub mod FormsLaw
 pub mod Sample
 pub mod SequenceLaw
-pub mod ListedLaw
+pub mod Listed
 pub mod BooksLaw
+pub mod GoLaw
+pub mod Laws

@@ -3,7 +3,9 @@ ghost use Rattle.std.specs.Prelude.{◌≡◌, ◌++◌, ◌+◌, ◌<◌, ◌�
 ghost use Rattle.std.specs.List.{after_first, before_first};
 ghost use Rattle.script.specs.Faults.{number};
 ghost use Rattle.script.specs.Transcripts.{limit, newline, play, refusals, transcript};
+ghost use Rattle.script.specs.BooksLaw.{BooksLaw};
 ghost use Rattle.script.specs.FormsLaw.{FormsLaw};
+ghost use Rattle.script.specs.GoLaw.{GoLaw};
 ghost use Rattle.script.specs.RefusedLaw.{OrderLaw, RefusedLaw, StageLaw};
 ghost use Rattle.script.specs.SequenceLaw.{SequenceLaw};
 ghost use Rattle.script.specs.Stages.{answer_in, next_phase, outcome, phase_of, printed_in};
@@ -116,6 +118,8 @@ pub fn run(script: &[u8], heap: Global, out: &mut Vec<u8>) -> io::Result<Vec<Fau
     ensures stages { StageLaw }
     ensures order { OrderLaw }
     ensures sequence { SequenceLaw }
+    ensures books { BooksLaw }
+    ensures answered { GoLaw }
     ensures forms { FormsLaw }
 {
     let mut player = Player {

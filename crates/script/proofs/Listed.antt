@@ -10,7 +10,7 @@ use Rattle.equivalence.proofs.Refinement.{roles_le}
 use Rattle.question.specs.declared.line.Line.{Line}
 use Rattle.driving.specs.Book.{Book}
 use Rattle.script.specs.Listings.{heads, role_total, split_total, settled_lines, true_lines, go_lines, each_below}
-use Rattle.script.specs.ListedLaw.{Listed, ListedBy, ListedLaw}
+use Rattle.script.specs.Listed.{Listed, ListedBy}
 use Rattle.script.specs.Words.{node_line}
 use Rattle.script.specs.Works.{Weighing, go_by}
 use Rattle.script.proofs.Printing.{true_lines_none}
@@ -38,10 +38,7 @@ module _ {V : Type 0} (o : Operations V) (laws : Laws o) (book : Book) where
         unasked = λ none. true_lines_none o book lines (ap (λ (ls : List Line). length ls) none);
       }
 
-go_listed_by : (by : Weighing) (book : Book) (lines : List Line) → ListedBy by book lines (go_by by book lines)
+pub go_listed_by : (by : Weighing) (book : Book) (lines : List Line) → ListedBy by book lines (go_by by book lines)
 go_listed_by Weighing.Kinds = go_listed _ kinds_laws
 go_listed_by Weighing.Bundles = go_listed _ bundles_laws
 go_listed_by Weighing.Tally = go_listed _ tally_laws
-
-pub listed_law : ListedLaw
-listed_law = record { listed = go_listed_by }

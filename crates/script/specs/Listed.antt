@@ -2,7 +2,6 @@
 --
 --   Listed       this is printed of a table, and the table is the coarsest within the colours of the book
 --   ListedBy     the same under the measure that is chosen
---   ListedLaw    so it is with what GO prints, under each measure, of every book and every question
 use Rattle.std.specs.Prelude.{◌≡◌, ◌<◌, ℕ, ◌+◌, cond, List, [], ◌++◌}
 use Rattle.measure.specs.Measures.{Operations}
 use Rattle.measure.specs.Bundles.{bundles}
@@ -15,7 +14,7 @@ use Rattle.question.specs.declared.line.Line.{Line}
 use Rattle.driving.specs.Book.{Book}
 use Rattle.script.specs.Listings.{each_below}
 use Rattle.script.specs.Words.{settled_line, node_line, true_line}
-use Rattle.script.specs.Works.{Weighing, go_by}
+use Rattle.script.specs.Works.{Weighing}
 
 pub record Listed {V : Type 0} (o : Operations V) (book : Book) (lines : List Line) (printed : List ℕ) : Type 0 where
   -- what is printed behind a node is its role
@@ -37,6 +36,3 @@ abbrev pub ListedBy : Weighing → Book → List Line → List ℕ → Type 0
 ListedBy Weighing.Kinds book lines printed = Listed kinds book lines printed
 ListedBy Weighing.Bundles book lines printed = Listed bundles book lines printed
 ListedBy Weighing.Tally book lines printed = Listed tally book lines printed
-
-pub record ListedLaw : Type 0 where
-  pub listed : (by : Weighing) (book : Book) (lines : List Line) → ListedBy by book lines (go_by by book lines)

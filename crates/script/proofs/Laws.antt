@@ -1,0 +1,19 @@
+-- The laws of all scripts. Assumes nothing.
+use Rattle.script.specs.Laws.{ScriptLaws}
+use Rattle.script.proofs.BooksLaw.{books_law}
+use Rattle.script.proofs.FormsLaw.{forms_law}
+use Rattle.script.proofs.GoLaw.{go_law}
+use Rattle.script.proofs.RefusedLaw.{order_law, refused_law, stage_law}
+use Rattle.script.proofs.SequenceLaw.{sequence_law}
+
+pub script_laws : ScriptLaws
+script_laws =
+    record {
+      refused = refused_law;
+      stages = stage_law;
+      order = order_law;
+      sequence = sequence_law;
+      books = books_law;
+      answered = go_law;
+      forms = forms_law;
+    }
