@@ -8,3 +8,4 @@ pub mod RecordLaw
 pub mod Sequences
 pub mod RefusedLaw
 pub mod SequenceLaw
+pub mod PlacesLaw

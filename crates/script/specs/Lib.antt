@@ -12,3 +12,4 @@ pub mod Transcripts
 pub mod RecordLaw
 pub mod RefusedLaw
 pub mod SequenceLaw
+pub mod PlacesLaw
