@@ -9,3 +9,4 @@ pub mod Sequences
 pub mod RefusedLaw
 pub mod SequenceLaw
 pub mod PlacesLaw
+pub mod ErrorsLaw

@@ -13,3 +13,4 @@ pub mod RecordLaw
 pub mod RefusedLaw
 pub mod SequenceLaw
 pub mod PlacesLaw
+pub mod ErrorsLaw
