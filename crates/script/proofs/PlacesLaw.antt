@@ -117,15 +117,15 @@ module _ (p : Played) (line : List ℕ) (rs : List (List ℕ)) where
         place = omega (arith, from.place, offset_after p line, sum_by-cons width line from.before);
       }
 
-from : (p : Played) (rs : List (List ℕ)) → p.faults ≡ [] → All (From p rs) (fold play p rs).faults
-from p [] none = All-same (From p []) p.faults [] none (All-nil (From p []))
-from p (line ∷ rs) none =
+all_from : (p : Played) (rs : List (List ℕ)) → p.faults ≡ [] → All (From p rs) (fold play p rs).faults
+all_from p [] none = All-same (From p []) p.faults [] none (All-nil (From p []))
+all_from p (line ∷ rs) none =
     let q = play p line in
     let more = (fold play (afresh q) rs).faults in
     All-same (From p (line ∷ rs)) (fold play q rs).faults (q.faults ++ more) (faults_on q rs)
     (All-append (From p (line ∷ rs)) q.faults more
     (from_now p line rs none (outcome p.phase line))
-    (All-weaker (From (afresh q) rs) (From p (line ∷ rs)) (from_later p line rs) more (from (afresh q) rs refl)))
+    (All-weaker (From (afresh q) rs) (From p (line ∷ rs)) (from_later p line rs) more (all_from (afresh q) rs refl)))
 
 placed : (script : List ℕ) (f : Fault) → From blank (records script) f → Placed script f
 placed script f from =
@@ -150,5 +150,5 @@ places_law =
     record {
       each = λ script within.
           All-same (Placed script) (refusals script) (fold play blank (records script)).faults (refusals_within script within)
-          (All-weaker (From blank (records script)) (Placed script) (placed script) (fold play blank (records script)).faults (from blank (records script) refl));
+          (All-weaker (From blank (records script)) (Placed script) (placed script) (fold play blank (records script)).faults (all_from blank (records script) refl));
     }
