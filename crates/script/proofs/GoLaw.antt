@@ -1,14 +1,12 @@
 -- What each GO of a script prints. Assumes nothing.
-use Rattle.std.proofs.Common.{◌≡◌, ℕ, List, [], fold, Ok, refl, sym, subst, rules}
-use Rattle.question.specs.declared.line.Line.{Line}
-use Rattle.driving.specs.Book.{Book}
+use Rattle.std.proofs.Common.{◌≡◌, ℕ, List, [], fold, Ok, subst, rules}
 use Rattle.script.specs.BooksLaw.{Story, asked}
 use Rattle.script.specs.GoLaw.{Answered, GoLaw}
 use Rattle.script.specs.Listed.{ListedBy}
-use Rattle.script.specs.Records.{Said, parse}
+use Rattle.script.specs.Records.{Said}
 use Rattle.script.specs.Stages.{Outcome, Phase, does, outcome}
 use Rattle.script.specs.Transcripts.{blank, play}
-use Rattle.script.specs.Works.{Weighing, go_by}
+use Rattle.script.specs.Works.{go_by}
 use Rattle.script.proofs.BooksLaw.{books_law}
 use Rattle.script.proofs.Listed.{go_listed_by}
 

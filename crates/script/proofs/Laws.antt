@@ -1,8 +1,10 @@
 -- The laws of all scripts. Assumes nothing.
 use Rattle.script.specs.Laws.{ScriptLaws}
 use Rattle.script.proofs.BooksLaw.{books_law}
+use Rattle.script.proofs.ErrorsLaw.{errors_law}
 use Rattle.script.proofs.FormsLaw.{forms_law}
 use Rattle.script.proofs.GoLaw.{go_law}
+use Rattle.script.proofs.PlacesLaw.{places_law}
 use Rattle.script.proofs.RefusedLaw.{order_law, refused_law, stage_law}
 use Rattle.script.proofs.SequenceLaw.{sequence_law}
 
@@ -12,6 +14,8 @@ script_laws =
       refused = refused_law;
       stages = stage_law;
       order = order_law;
+      places = places_law;
+      errors = errors_law;
       sequence = sequence_law;
       books = books_law;
       answered = go_law;

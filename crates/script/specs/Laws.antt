@@ -1,7 +1,9 @@
 -- The laws of all scripts. Assumes nothing.
 use Rattle.script.specs.BooksLaw.{BooksLaw}
+use Rattle.script.specs.ErrorsLaw.{ErrorsLaw}
 use Rattle.script.specs.FormsLaw.{FormsLaw}
 use Rattle.script.specs.GoLaw.{GoLaw}
+use Rattle.script.specs.PlacesLaw.{PlacesLaw}
 use Rattle.script.specs.RefusedLaw.{OrderLaw, RefusedLaw, StageLaw}
 use Rattle.script.specs.SequenceLaw.{SequenceLaw}
 
@@ -12,6 +14,10 @@ pub record ScriptLaws : Type 0 where
   pub stages : StageLaw
   -- a record that cannot be read is refused with 12 or 13 at every stage
   pub order : OrderLaw
+  -- a refusal has the number of its record, and the place where the record begins
+  pub places : PlacesLaw
+  -- the error lines are the refusals, and no other line is one
+  pub errors : ErrorsLaw
   -- a script that is cut between two records is two scripts in sequence
   pub sequence : SequenceLaw
   -- at each moment network and measure are those that were named, and ties, colours and question those of the records since

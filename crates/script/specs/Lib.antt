@@ -19,3 +19,5 @@ pub mod Listed
 pub mod BooksLaw
 pub mod GoLaw
 pub mod Laws
+pub mod PlacesLaw
+pub mod ErrorsLaw

@@ -3,11 +3,7 @@ ghost use Rattle.std.specs.Prelude.{◌≡◌, ◌++◌, ◌+◌, ◌<◌, ◌�
 ghost use Rattle.std.specs.List.{after_first, before_first};
 ghost use Rattle.script.specs.Faults.{number};
 ghost use Rattle.script.specs.Transcripts.{limit, newline, play, refusals, transcript};
-ghost use Rattle.script.specs.BooksLaw.{BooksLaw};
-ghost use Rattle.script.specs.FormsLaw.{FormsLaw};
-ghost use Rattle.script.specs.GoLaw.{GoLaw};
-ghost use Rattle.script.specs.RefusedLaw.{OrderLaw, RefusedLaw, StageLaw};
-ghost use Rattle.script.specs.SequenceLaw.{SequenceLaw};
+ghost use Rattle.script.specs.Laws.{ScriptLaws};
 ghost use Rattle.script.specs.Stages.{answer_in, next_phase, outcome, phase_of, printed_in};
 ghost use Rattle.script.specs.Words.{refusal_line};
 
@@ -108,19 +104,11 @@ impl Player {
 
 /// Runs a script: what it prints is appended to `out`, and its refusals are given in order. An
 /// error is want of memory, and `out` then ends anywhere in what the script prints.
-#[tactic(auto, using(crate::proofs::RefusedLaw::refused_law, crate::proofs::RefusedLaw::stage_law, crate::proofs::RefusedLaw::order_law, crate::proofs::SequenceLaw::sequence_law, crate::proofs::FormsLaw::forms_law))]
+#[tactic(auto, using(crate::proofs::Laws::script_laws))]
 pub fn run(script: &[u8], heap: Global, out: &mut Vec<u8>) -> io::Result<Vec<Fault>>
     ensures printed { OnOk result (out.new.items ≡ out.old.items ++ transcript script.now) }
     ensures refusals { IfOk result (λ faults. faults.items ≡ refusals script.now) }
-
-    // Of every script, and so of this one.
-    ensures refused { RefusedLaw }
-    ensures stages { StageLaw }
-    ensures order { OrderLaw }
-    ensures sequence { SequenceLaw }
-    ensures books { BooksLaw }
-    ensures answered { GoLaw }
-    ensures forms { FormsLaw }
+    ensures laws { ScriptLaws }
 {
     let mut player = Player {
         stage: Stage::Network,
