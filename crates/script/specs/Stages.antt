@@ -1,6 +1,7 @@
 -- What a record does at a stage. Assumes nothing.
 --
 --   Phase         what the script has named and told so far: nothing, a network, or a network and a measure with the book and the question
+--   work_phase    the phase of work that is under way
 --   phase_of      the phase of a stage of the program
 --   Outcome       the next phase and what is printed, or the refusal
 --   named         after a network record
@@ -24,6 +25,7 @@ use Rattle.script.specs.Words.{remark_line}
 use Rattle.script.specs.Works.{Weighing, book_of, go_by, weighed_by}
 use Rattle.script.specs.declared.faults.Reason.{Reason}
 use Rattle.script.specs.declared.stage.Stage.{Stage}
+use Rattle.script.specs.declared.work.Work as work
 use Rattle.script.specs.declared.stage.Stage.TheVariants as stage
 
 pub data Phase : Type 0 where
@@ -31,10 +33,13 @@ pub data Phase : Type 0 where
   Measure : Meaning → Phase
   Work : Weighing → Book → List Line → Phase
 
+abbrev pub work_phase : work.Work → Phase
+work_phase w = Phase.Work (weighed_by w.session) (book_of w.session) w.question.lines.items
+
 abbrev pub phase_of : Stage → Phase
 phase_of stage.Network = Phase.Network
 phase_of (stage.Measure network) = Phase.Measure (meant network)
-phase_of (stage.Work work question) = Phase.Work (weighed_by work) (book_of work) question.lines.items
+phase_of (stage.Work w) = work_phase w.value
 
 abbrev pub Outcome : Type 0
 Outcome = Result (Phase × List ℕ) Reason

@@ -12,23 +12,23 @@ use Rattle.question.specs.declared.line.Line.{Line}
 use Rattle.session.specs.OpenSessions.{state_of}
 use Rattle.driving.specs.Book.{Book, book_in}
 use Rattle.script.specs.Listings.{go_lines}
-use Rattle.script.specs.declared.work.Work.{Work}
-use Rattle.script.specs.declared.work.Work.TheVariants as work
+use Rattle.script.specs.declared.work.Weighed.{Weighed}
+use Rattle.script.specs.declared.work.Weighed.TheVariants as weighed
 
 pub data Weighing : Type 0 where
   Kinds : Weighing
   Bundles : Weighing
   Tally : Weighing
 
-abbrev pub weighed_by : Work → Weighing
-weighed_by (work.ByKinds s) = Weighing.Kinds
-weighed_by (work.ByBundles s) = Weighing.Bundles
-weighed_by (work.ByTally s) = Weighing.Tally
+abbrev pub weighed_by : Weighed → Weighing
+weighed_by (weighed.ByKinds s) = Weighing.Kinds
+weighed_by (weighed.ByBundles s) = Weighing.Bundles
+weighed_by (weighed.ByTally s) = Weighing.Tally
 
-abbrev pub book_of : Work → Book
-book_of (work.ByKinds s) = book_in (state_of s)
-book_of (work.ByBundles s) = book_in (state_of s)
-book_of (work.ByTally s) = book_in (state_of s)
+abbrev pub book_of : Weighed → Book
+book_of (weighed.ByKinds s) = book_in (state_of s)
+book_of (weighed.ByBundles s) = book_in (state_of s)
+book_of (weighed.ByTally s) = book_in (state_of s)
 
 abbrev pub go_by : Weighing → Book → List Line → List ℕ
 go_by Weighing.Kinds book lines = go_lines kinds book lines

@@ -9,10 +9,6 @@ use super::draft::Draft;
 use super::faults::Reason;
 use super::record::Record;
 use super::work::Work;
-use measure::bundles::Bundles;
-use measure::kinds::Kinds;
-use measure::tally::Tally;
-use session::open::Open;
 use std::alloc::{AllocError, Global};
 use std::io::{self, Write};
 
@@ -21,8 +17,8 @@ use std::io::{self, Write};
 pub(crate) enum Stage {
     Network,
     Measure(AnyNetwork),
-    // The work, and the question so far.
-    Work(Work, Draft),
+    // In a box, so that a stage is moved cheaply.
+    Work(Box<Work>),
 }
 
 // Bytes enough for any network.
@@ -77,32 +73,28 @@ impl Stage {
                 }
             }
             (Stage::Measure(network), Record::Kinds) => {
-                let work = Work::ByKinds(Open::new(network, Kinds));
-                Ok((Stage::Work(work, Draft::new()), accepted))
+                Ok((Stage::Work(Work::by_kinds(network, heap)?), accepted))
             }
             (Stage::Measure(network), Record::Bundles) => {
-                let work = Work::ByBundles(Open::new(network, Bundles));
-                Ok((Stage::Work(work, Draft::new()), accepted))
+                Ok((Stage::Work(Work::by_bundles(network, heap)?), accepted))
             }
             (Stage::Measure(network), Record::Tally) => {
-                let work = Work::ByTally(Open::new(network, Tally));
-                Ok((Stage::Work(work, Draft::new()), accepted))
+                Ok((Stage::Work(Work::by_tally(network, heap)?), accepted))
             }
-            (Stage::Work(mut work, question), Record::Put(i, j, b)) => {
-                let answer = work.put(i, j, b).map_err(Reason::Network);
-                Ok((Stage::Work(work, question), answer))
+            (Stage::Work(mut work), Record::Put(i, j, b)) => {
+                let answer = work.session.put(i, j, b).map_err(Reason::Network);
+                Ok((Stage::Work(work), answer))
             }
-            (Stage::Work(mut work, question), Record::Colour(i, c)) => {
-                let answer = work.colour(i, c).map_err(Reason::Session);
-                Ok((Stage::Work(work, question), answer))
+            (Stage::Work(mut work), Record::Colour(i, c)) => {
+                let answer = work.session.colour(i, c).map_err(Reason::Session);
+                Ok((Stage::Work(work), answer))
             }
-            (Stage::Work(work, mut question), Record::Question(line)) => {
-                let answer = question.add(line).map_err(Reason::Question);
-                Ok((Stage::Work(work, question), answer))
+            (Stage::Work(mut work), Record::Question(line)) => {
+                let answer = work.question.add(line).map_err(Reason::Question);
+                Ok((Stage::Work(work), answer))
             }
-            (Stage::Work(work, question), Record::Go) => {
-                let work = work.go(question.lines(), out)?;
-                Ok((Stage::Work(work, Draft::new()), accepted))
+            (Stage::Work(work), Record::Go) => {
+                Ok((Stage::Work(Work::go(work, heap, out)?), accepted))
             }
             (stage, _) => Ok((stage, Err(Reason::Stage))),
         }

@@ -1,5 +1,5 @@
 // The work on a network: a session under the measure that the script chose.
-ghost use Rattle.std.specs.Prelude.{◌≡◌, ◌++◌, ◌≤◌, length, OnOk, IfOk, Ok};
+ghost use Rattle.std.specs.Prelude.{◌≡◌, ◌++◌, ◌≤◌, length, OnOk, IfOk, Ok, []};
 ghost use Rattle.network.specs.Put.{put_answer};
 ghost use Rattle.question.specs.Checks.{lines_check};
 ghost use Rattle.session.specs.OpenSessions.{state_of};
@@ -7,9 +7,10 @@ ghost use Rattle.session.specs.Sessions.{colour_answer};
 ghost use Rattle.driving.specs.Book.{after_colour, after_put, book_in, opened};
 ghost use Rattle.script.specs.Listings.{go_lines};
 ghost use Rattle.script.specs.Networks.{meant};
-ghost use Rattle.script.specs.Works.{book_of, go_by, weighed_by};
+ghost use Rattle.script.specs.Works.{Weighing, book_of, go_by, weighed_by};
 
 use super::any_network::AnyNetwork;
+use super::draft::Draft;
 use super::listing::{print_roles, print_true};
 use measure::bundles::Bundles;
 use measure::interface::Measure;
@@ -18,6 +19,7 @@ use measure::tally::Tally;
 use network::interface::Editable;
 use question::line::Line;
 use session::open::Open;
+use std::alloc::{AllocError, Global};
 use std::io;
 
 // Settles, lists and asks, and opens again.
@@ -39,23 +41,24 @@ fn go<N: Editable + Drop, M: Measure + Drop>(
     Ok(settled.reopen())
 }
 
+// A session under one of the measures.
 #[derive(Drop)]
-pub(crate) enum Work {
+pub(crate) enum Weighed {
     ByKinds(Open<AnyNetwork, Kinds>),
     ByBundles(Open<AnyNetwork, Bundles>),
     ByTally(Open<AnyNetwork, Tally>),
 }
 
-impl Work {
+impl Weighed {
     pub(crate) fn put(&mut self, i: usize, j: usize, b: u8) -> Result<(), network::faults::Fault>
         ensures answer { result ≡ put_answer (book_of self.old).network i j b }
         ensures book { book_of self.new ≡ after_put (book_of self.old) i j b }
         ensures measure { weighed_by self.new ≡ weighed_by self.old }
     {
         match self {
-            Work::ByKinds(session) => session.put(i, j, b),
-            Work::ByBundles(session) => session.put(i, j, b),
-            Work::ByTally(session) => session.put(i, j, b),
+            Weighed::ByKinds(session) => session.put(i, j, b),
+            Weighed::ByBundles(session) => session.put(i, j, b),
+            Weighed::ByTally(session) => session.put(i, j, b),
         }
     }
 
@@ -65,14 +68,14 @@ impl Work {
         ensures measure { weighed_by self.new ≡ weighed_by self.old }
     {
         match self {
-            Work::ByKinds(session) => session.colour(i, c),
-            Work::ByBundles(session) => session.colour(i, c),
-            Work::ByTally(session) => session.colour(i, c),
+            Weighed::ByKinds(session) => session.colour(i, c),
+            Weighed::ByBundles(session) => session.colour(i, c),
+            Weighed::ByTally(session) => session.colour(i, c),
         }
     }
 
     // Settles, lists and asks, and opens again.
-    pub(crate) fn go(self, question: &[Line], out: &mut Vec<u8>) -> io::Result<Work>
+    pub(crate) fn go(self, question: &[Line], out: &mut Vec<u8>) -> io::Result<Weighed>
         requires passes { lines_check 0 question.now ≡ Ok tt }
         requires few { length question.now ≤ 32 }
         ensures book { IfOk result (λ next. book_of next ≡ book_of self) }
@@ -81,9 +84,64 @@ impl Work {
             OnOk result (out.new.items ≡ out.old.items ++ lines) }
     {
         match self {
-            Work::ByKinds(session) => Ok(Work::ByKinds(go(session, question, out)?)),
-            Work::ByBundles(session) => Ok(Work::ByBundles(go(session, question, out)?)),
-            Work::ByTally(session) => Ok(Work::ByTally(go(session, question, out)?)),
+            Weighed::ByKinds(session) => Ok(Weighed::ByKinds(go(session, question, out)?)),
+            Weighed::ByBundles(session) => Ok(Weighed::ByBundles(go(session, question, out)?)),
+            Weighed::ByTally(session) => Ok(Weighed::ByTally(go(session, question, out)?)),
         }
+    }
+}
+
+// What is worked on: the session, and the question so far.
+#[derive(Drop)]
+pub(crate) struct Work {
+    pub(crate) session: Weighed,
+    pub(crate) question: Draft,
+}
+
+impl Work {
+    ghost use Rattle.script.specs.Stages.{Phase, work_phase};
+
+    // With no question yet.
+    fn begun(session: Weighed, heap: Global) -> Result<Box<Work>, AllocError>
+        ensures { IfOk result (λ work.
+            work_phase work.value ≡ Phase.Work (weighed_by session) (book_of session) []) }
+    {
+        let question = Draft::new();
+        Ok(Box::new(heap, Work { session, question })?)
+    }
+
+    pub(crate) fn by_kinds(network: AnyNetwork, heap: Global) -> Result<Box<Work>, AllocError>
+        ensures { let book = opened (meant network) in
+            IfOk result (λ work. work_phase work.value ≡ Phase.Work Weighing.Kinds book []) }
+    {
+        Work::begun(Weighed::ByKinds(Open::new(network, Kinds)), heap)
+    }
+
+    pub(crate) fn by_bundles(network: AnyNetwork, heap: Global) -> Result<Box<Work>, AllocError>
+        ensures { let book = opened (meant network) in
+            IfOk result (λ work. work_phase work.value ≡ Phase.Work Weighing.Bundles book []) }
+    {
+        Work::begun(Weighed::ByBundles(Open::new(network, Bundles)), heap)
+    }
+
+    pub(crate) fn by_tally(network: AnyNetwork, heap: Global) -> Result<Box<Work>, AllocError>
+        ensures { let book = opened (meant network) in
+            IfOk result (λ work. work_phase work.value ≡ Phase.Work Weighing.Tally book []) }
+    {
+        Work::begun(Weighed::ByTally(Open::new(network, Tally)), heap)
+    }
+
+    // Settles, lists and asks, and opens again, with no question yet.
+    pub(crate) fn go(work: Box<Work>, heap: Global, out: &mut Vec<u8>) -> io::Result<Box<Work>>
+        ensures work { let by = weighed_by work.value.session in
+            let book = book_of work.value.session in
+            IfOk result (λ next. work_phase next.value ≡ Phase.Work by book []) }
+        ensures printed { let by = weighed_by work.value.session in
+            let lines = go_by by (book_of work.value.session) work.value.question.lines.items in
+            OnOk result (out.new.items ≡ out.old.items ++ lines) }
+    {
+        let Work { session, question } = Box::into_inner(work);
+        let session = session.go(question.lines(), out)?;
+        Ok(Work::begun(session, heap)?)
     }
 }
