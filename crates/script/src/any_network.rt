@@ -1,12 +1,13 @@
 // A network whose kind the script chooses.
-ghost use Rattle.std.specs.Prelude.{◌≡◌, vec_len};
+ghost use Rattle.std.specs.Prelude.{◌≡◌, IfOk, vec_len};
 ghost use Rattle.network.specs.Put.{put_after, put_answer};
-ghost use Rattle.script.specs.Networks.{matrix_named, meant, meant_in, two_mode_named};
+ghost use Rattle.script.specs.Networks.{enough, matrix_named, meant, meant_in, two_mode_named};
 
 use network::faults::Fault;
 use network::interface::{Editable, Readable};
 use network::matrix::Matrix;
 use network::two_mode::TwoMode;
+use std::alloc::{AllocError, Global};
 
 #[derive(Drop)]
 pub(crate) enum AnyNetwork {
@@ -14,21 +15,37 @@ pub(crate) enum AnyNetwork {
     TwoMode(TwoMode),
 }
 
+// Bytes enough for any network.
+fn memory(heap: Global) -> Result<Vec<u8>, AllocError>
+    ensures { IfOk result (λ bytes. vec_len bytes ≡ enough) }
+{
+    vec![in heap; 0; 16384]
+}
+
 impl AnyNetwork {
-    // The matrix of n nodes without ties, or the refusal of its making.
-    pub(crate) fn matrix(n: usize, memory: Vec<u8>) -> Result<AnyNetwork, Fault>
-        ensures { meant_in result ≡ matrix_named n (vec_len memory) }
+    // The matrix of n nodes without ties, or the refusal of its making. Only memory can fail.
+    pub(crate) fn matrix(n: usize, heap: Global) -> Result<Result<AnyNetwork, Fault>, AllocError>
+        ensures { IfOk result (λ network. meant_in network ≡ matrix_named n enough) }
     {
-        Matrix::check(n, &memory)?;
-        Ok(AnyNetwork::OneMode(Matrix::new(n, memory)))
+        // Asked without memory first, so that what is refused takes none.
+        if let Err(Fault::Size) = Matrix::check(n, &[]) {
+            return Ok(Err(Fault::Size));
+        }
+        Ok(Ok(AnyNetwork::OneMode(Matrix::new(n, memory(heap)?))))
     }
 
-    // Sides of a and b nodes without ties, or the refusal of their making.
-    pub(crate) fn two_mode(a: usize, b: usize, memory: Vec<u8>) -> Result<AnyNetwork, Fault>
-        ensures { meant_in result ≡ two_mode_named a b (vec_len memory) }
+    // Sides of a and b nodes without ties, or the refusal of their making. Only memory can fail.
+    pub(crate) fn two_mode(
+        a: usize,
+        b: usize,
+        heap: Global,
+    ) -> Result<Result<AnyNetwork, Fault>, AllocError>
+        ensures { IfOk result (λ network. meant_in network ≡ two_mode_named a b enough) }
     {
-        TwoMode::check(a, b, &memory)?;
-        Ok(AnyNetwork::TwoMode(TwoMode::new(a, b, memory)))
+        if let Err(Fault::Size) = TwoMode::check(a, b, &[]) {
+            return Ok(Err(Fault::Size));
+        }
+        Ok(Ok(AnyNetwork::TwoMode(TwoMode::new(a, b, memory(heap)?))))
     }
 }
 

@@ -102,13 +102,10 @@ impl Player {
     }
 }
 
-/// Runs a script: what it prints is appended to `out`, and its refusals are given in order. An
-/// error is want of memory, and `out` then ends anywhere in what the script prints.
-#[tactic(auto, using(crate::proofs::Laws::script_laws))]
-pub fn run(script: &[u8], heap: Global, out: &mut Vec<u8>) -> io::Result<Vec<Fault>>
+// Plays each record, or refuses the whole script.
+fn play_all(script: &[u8], heap: Global, out: &mut Vec<u8>) -> io::Result<Vec<Fault>>
     ensures printed { OnOk result (out.new.items ≡ out.old.items ++ transcript script.now) }
     ensures refusals { IfOk result (λ faults. faults.items ≡ refusals script.now) }
-    ensures laws { ScriptLaws }
 {
     let mut player = Player {
         stage: Stage::Network,
@@ -133,4 +130,19 @@ pub fn run(script: &[u8], heap: Global, out: &mut Vec<u8>) -> io::Result<Vec<Fau
         rest = after;
     }
     Ok(player.faults)
+}
+
+/// Runs a script: what it prints is appended to `out`, and its refusals are given in order. An error
+/// is want of memory, and `out` then holds what it held.
+#[tactic(auto, using(crate::proofs::Laws::script_laws))]
+pub fn run(script: &[u8], heap: Global, out: &mut Vec<u8>) -> io::Result<Vec<Fault>>
+    ensures printed { OnOk result (out.new.items ≡ out.old.items ++ transcript script.now) }
+    ensures refusals { IfOk result (λ faults. faults.items ≡ refusals script.now) }
+    ensures failed { OnErr result (out.new.items ≡ out.old.items) }
+    ensures laws { ScriptLaws }
+{
+    let mut printed = Vec::new(heap);
+    let faults = play_all(script, heap, &mut printed)?;
+    out.extend_from_slice(&printed)?;
+    Ok(faults)
 }

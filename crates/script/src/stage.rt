@@ -1,6 +1,5 @@
 // The stages of a script, and what a record does at each.
-ghost use Rattle.std.specs.Prelude.{◌≡◌, ◌++◌, IfOk, OnOk, vec_len};
-ghost use Rattle.script.specs.Networks.{enough, meant_in};
+ghost use Rattle.std.specs.Prelude.{◌≡◌, ◌++◌, IfOk, OnOk};
 ghost use Rattle.script.specs.Records.{said_in};
 ghost use Rattle.script.specs.Words.{remark_line};
 
@@ -9,7 +8,7 @@ use super::draft::Draft;
 use super::faults::Reason;
 use super::record::Record;
 use super::work::Work;
-use std::alloc::{AllocError, Global};
+use std::alloc::Global;
 use std::io::{self, Write};
 
 // What the script names next, or works on.
@@ -19,13 +18,6 @@ pub(crate) enum Stage {
     Measure(AnyNetwork),
     // In a box, so that a stage is moved cheaply.
     Work(Box<Work>),
-}
-
-// Bytes enough for any network.
-fn memory(heap: Global) -> Result<Vec<u8>, AllocError>
-    ensures { IfOk result (λ bytes. vec_len bytes ≡ enough) }
-{
-    vec![in heap; 0; 16384]
 }
 
 fn print_remark(text: &[u8], out: &mut Vec<u8>) -> io::Result<()>
@@ -61,13 +53,13 @@ impl Stage {
                 Ok((stage, accepted))
             }
             (Stage::Network, Record::Matrix(n)) => {
-                match AnyNetwork::matrix(n, memory(heap)?) {
+                match AnyNetwork::matrix(n, heap)? {
                     Ok(network) => Ok((Stage::Measure(network), accepted)),
                     Err(fault) => Ok((Stage::Network, Err(Reason::Network(fault)))),
                 }
             }
             (Stage::Network, Record::TwoMode(a, b)) => {
-                match AnyNetwork::two_mode(a, b, memory(heap)?) {
+                match AnyNetwork::two_mode(a, b, heap)? {
                     Ok(network) => Ok((Stage::Measure(network), accepted)),
                     Err(fault) => Ok((Stage::Network, Err(Reason::Network(fault)))),
                 }
