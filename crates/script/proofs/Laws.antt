@@ -6,6 +6,7 @@ use Rattle.script.proofs.FormsLaw.{forms_law}
 use Rattle.script.proofs.GoLaw.{go_law}
 use Rattle.script.proofs.PlacesLaw.{places_law}
 use Rattle.script.proofs.RefusedLaw.{order_law, refused_law, stage_law}
+use Rattle.script.proofs.Sample.{sample_prints}
 use Rattle.script.proofs.SequenceLaw.{sequence_law}
 
 pub script_laws : ScriptLaws
@@ -20,4 +21,5 @@ script_laws =
       books = books_law;
       answered = go_law;
       forms = forms_law;
+      sample = sample_prints;
     }

@@ -5,6 +5,7 @@ use Rattle.script.specs.FormsLaw.{FormsLaw}
 use Rattle.script.specs.GoLaw.{GoLaw}
 use Rattle.script.specs.PlacesLaw.{PlacesLaw}
 use Rattle.script.specs.RefusedLaw.{OrderLaw, RefusedLaw, StageLaw}
+use Rattle.script.specs.Sample.{SamplePrints}
 use Rattle.script.specs.SequenceLaw.{SequenceLaw}
 
 pub record ScriptLaws : Type 0 where
@@ -26,3 +27,5 @@ pub record ScriptLaws : Type 0 where
   pub answered : GoLaw
   -- what is printed are lines of five forms
   pub forms : FormsLaw
+  -- and the sample prints what stands beside it
+  pub sample : SamplePrints
