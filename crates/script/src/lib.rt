@@ -22,3 +22,5 @@ mod work;
 mod stage;
 // A whole script.
 pub mod run;
+#[cfg(test)]
+mod tests;
