@@ -57,7 +57,7 @@ pub struct Fault {
     pub reason: Reason,
     /// The number of the record, from 1; 0 where the whole script is refused.
     pub record: usize,
-    /// Where in the script the record begins, from 0.
+    /// Where in the script the record begins, from 0; 0 where the whole script is refused.
     pub offset: usize,
 }
 

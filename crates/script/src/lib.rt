@@ -1,15 +1,17 @@
-// The script of a session: records in, the answer out.
+// Scripts: records in, the answer out.
 
 #![tactic(auto)]
 
-// Where bytes are cut.
-mod cutting;
+// A whole script.
+pub mod run;
 // Why a record is refused.
 pub mod faults;
 // What a record says.
 pub mod record;
 // From the bytes of a record to what it says.
 pub mod reading;
+// Where bytes are cut.
+mod cutting;
 // A network whose kind is chosen by the script.
 mod any_network;
 // A question that is added to.
@@ -20,7 +22,5 @@ mod listing;
 mod work;
 // What a record does.
 mod stage;
-// A whole script.
-pub mod run;
 #[cfg(test)]
 mod tests;

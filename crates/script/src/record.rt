@@ -1,23 +1,27 @@
 // What a record says.
 use question::line::Line;
 
-/// A record of a script, taken apart.
+/// A record of a script, taken apart. Numbers are at most 65,535, and bytes 255.
 #[derive(Clone, Copy)]
 pub enum Record<'a> {
-    /// A matrix of so many nodes.
+    /// `NM n`: a matrix of n nodes.
     Matrix(usize),
-    /// A two-mode network of so many nodes on side A and on side B.
+    /// `NT a b`: a two-mode network of a nodes on side A and b on side B.
     TwoMode(usize, usize),
-    /// The measure.
+    /// `MK`: the measure.
     Kinds,
+    /// `MB`
     Bundles,
+    /// `MT`
     Tally,
+    /// `PU i j b`: the tie byte from i to j.
     Put(usize, usize, u8),
+    /// `CO i c`: the colour of node i.
     Colour(usize, u8),
-    /// A line more of the question.
+    /// `QC c`, `QN k`, `QA k l`, `QT k t`: a line more of the question.
     Question(Line),
-    /// Settle, list and ask.
+    /// `GO`: settle, list and ask.
     Go,
-    /// The part of the line after its mark.
+    /// `RM`: the part of the record after its mark.
     Remark(&'a [u8]),
 }
