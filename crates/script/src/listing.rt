@@ -64,7 +64,9 @@ pub(crate) fn print_true<N: Editable, M: Measure>(
     let mut area = [0; 4096];
     let start = settled.ask(question, &mut area).unwrap();
     for x in 0..settled.network().nodes() {
-        if area[start + settled.role_of(x).unwrap()] == 1 {
+        let role = settled.role_of(x).unwrap();
+        let answer = area[start + role];
+        if answer == 1 {
             writeln!(out, "QU {x}")?;
         }
     }

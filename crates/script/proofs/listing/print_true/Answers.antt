@@ -12,7 +12,7 @@ use Rattle.script.specs.Words.{true_line}
 use Rattle.script.proofs.Asking.{never_refused}
 use Rattle.script.proofs.Printing.{printed_more, printed_same, true_lines_none}
 use Rattle.script.proofs.listing.print_true.Goals as goal
-use Rattle.script.proofs.listing.print_true.Goals.{then-area-start-eq1+in_ok-writeln, else-area-start-eq1}
+use Rattle.script.proofs.listing.print_true.Goals.{then-answer-eq1+in_ok-writeln, else-answer-eq1}
 
 pub returns-then-is_empty : goal.returns-then-is_empty
 returns-then-is_empty g c =
@@ -46,13 +46,13 @@ loop-x-preserved g c =
     let within : x < state.network.nodes = omega (arith, c.loop-x-test.true, nodes) in
     let byte : slice_index c.ask.new.area (c.unwrap-start.result + role state x) ≡ cond (says x) 1 0 =
     (rw c.unwrap-start.ensures at c.ask.ensures.agrees).last x within in
-    let role_is : c.unwrap.result ≡ role state x = grind (arith, nat_tests, within, c.role_of.ensures.answer, c.unwrap.ensures) in
+    let role_is : c.unwrap-role.result ≡ role state x = grind (arith, nat_tests, within, c.role_of.ensures.answer, c.unwrap-role.ensures) in
     let so_far = c.loop-x.invariant in
-    elim c.if-area-start-eq1.branch [
-      | then-area-start-eq1+in_ok-writeln w ↦
+    elim c.if-answer-eq1.branch [
+      | then-answer-eq1+in_ok-writeln w ↦
           ap (λ v. v.items) w.out-is ∙ w.in_ok-writeln.ensures.bytes
-          ∙ printed_more says true_line x _ _ so_far (bit_true (says x) (sym byte ∙ rw role_is at w.if-area-start-eq1.true))
-      | else-area-start-eq1 w ↦
+          ∙ printed_more says true_line x _ _ so_far (bit_true (says x) (sym byte ∙ rw role_is at w.if-answer-eq1.true))
+      | else-answer-eq1 w ↦
           ap (λ v. v.items) w.out-is
-          ∙ printed_same says true_line x _ _ so_far (bit_false (says x) (λ e. w.if-area-start-eq1.false (rw role_is (byte ∙ e))))
+          ∙ printed_same says true_line x _ _ so_far (bit_false (says x) (λ e. w.if-answer-eq1.false (rw role_is (byte ∙ e))))
     ]
