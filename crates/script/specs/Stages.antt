@@ -34,12 +34,12 @@ pub data Phase : Type 0 where
   Work : Weighing → Book → List Line → Phase
 
 abbrev pub work_phase : work.Work → Phase
-work_phase w = Phase.Work (weighed_by w.session) (book_of w.session) w.question.lines.items
+work_phase w = Phase.Work (weighed_by w.session) (book_of w.session) w.question.value.lines.items
 
 abbrev pub phase_of : Stage → Phase
 phase_of stage.Network = Phase.Network
 phase_of (stage.Measure network) = Phase.Measure (meant network)
-phase_of (stage.Work w) = work_phase w.value
+phase_of (stage.Work w) = work_phase w
 
 abbrev pub Outcome : Type 0
 Outcome = Result (Phase × List ℕ) Reason

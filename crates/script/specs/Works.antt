@@ -26,9 +26,9 @@ weighed_by (weighed.ByBundles s) = Weighing.Bundles
 weighed_by (weighed.ByTally s) = Weighing.Tally
 
 abbrev pub book_of : Weighed → Book
-book_of (weighed.ByKinds s) = book_in (state_of s)
-book_of (weighed.ByBundles s) = book_in (state_of s)
-book_of (weighed.ByTally s) = book_in (state_of s)
+book_of (weighed.ByKinds s) = book_in (state_of s.value)
+book_of (weighed.ByBundles s) = book_in (state_of s.value)
+book_of (weighed.ByTally s) = book_in (state_of s.value)
 
 abbrev pub go_by : Weighing → Book → List Line → List ℕ
 go_by Weighing.Kinds book lines = go_lines kinds book lines

@@ -32,6 +32,12 @@ impl Draft {
         &self.lines
     }
 
+    pub(crate) fn clear(&mut self)
+        ensures { self.new.lines.items ≡ [] }
+    {
+        self.lines.clear();
+    }
+
     // One line more, or the first no of: fewer than 32 lines before it (6), a known code (7), only
     // earlier lines (8).
     pub(crate) fn add(&mut self, line: Line) -> Result<(), Fault>

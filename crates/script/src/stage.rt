@@ -16,8 +16,7 @@ use std::io::{self, Write};
 pub(crate) enum Stage {
     Network,
     Measure(AnyNetwork),
-    // In a box, so that a stage is moved cheaply.
-    Work(Box<Work>),
+    Work(Work),
 }
 
 fn print_remark(text: &[u8], out: &mut Vec<u8>) -> io::Result<()>
@@ -85,9 +84,7 @@ impl Stage {
                 let answer = work.question.add(line).map_err(Reason::Question);
                 Ok((Stage::Work(work), answer))
             }
-            (Stage::Work(work), Record::Go) => {
-                Ok((Stage::Work(Work::go(work, heap, out)?), accepted))
-            }
+            (Stage::Work(work), Record::Go) => { Ok((Stage::Work(work.go(heap, out)?), accepted)) }
             (stage, _) => Ok((stage, Err(Reason::Stage))),
         }
     }

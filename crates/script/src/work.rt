@@ -25,28 +25,30 @@ use std::io;
 // Settles, lists and asks, and opens again.
 #[tactic(auto, unfolding(crate::specs::Listings::go_lines))]
 fn go<N: Editable + Drop, M: Measure + Drop>(
-    session: Open<N, M>,
+    session: Box<Open<N, M>>,
     question: &[Line],
+    heap: Global,
     out: &mut Vec<u8>,
-) -> io::Result<Open<N, M>>
+) -> io::Result<Box<Open<N, M>>>
     requires passes { lines_check 0 question.now ≡ Ok tt }
     requires few { length question.now ≤ 32 }
-    ensures book { IfOk result (λ next. book_in (state_of next) ≡ book_in (state_of session)) }
-    ensures printed { let book = book_in (state_of session) in
+    ensures book { let book = book_in (state_of session.value) in
+        IfOk result (λ next. book_in (state_of next.value) ≡ book) }
+    ensures printed { let book = book_in (state_of session.value) in
         OnOk result (out.new.items ≡ out.old.items ++ go_lines M.Measure.ops book question.now) }
 {
-    let settled = session.settle();
+    let settled = Box::into_inner(session).settle();
     print_roles(&settled, out)?;
     print_true(&settled, question, out)?;
-    Ok(settled.reopen())
+    Ok(Box::new(heap, settled.reopen())?)
 }
 
-// A session under one of the measures.
+// A session under one of the measures, in a box, so that it moves cheaply.
 #[derive(Drop)]
 pub(crate) enum Weighed {
-    ByKinds(Open<AnyNetwork, Kinds>),
-    ByBundles(Open<AnyNetwork, Bundles>),
-    ByTally(Open<AnyNetwork, Tally>),
+    ByKinds(Box<Open<AnyNetwork, Kinds>>),
+    ByBundles(Box<Open<AnyNetwork, Bundles>>),
+    ByTally(Box<Open<AnyNetwork, Tally>>),
 }
 
 impl Weighed {
@@ -75,7 +77,7 @@ impl Weighed {
     }
 
     // Settles, lists and asks, and opens again.
-    pub(crate) fn go(self, question: &[Line], out: &mut Vec<u8>) -> io::Result<Weighed>
+    fn go(self, question: &[Line], heap: Global, out: &mut Vec<u8>) -> io::Result<Weighed>
         requires passes { lines_check 0 question.now ≡ Ok tt }
         requires few { length question.now ≤ 32 }
         ensures book { IfOk result (λ next. book_of next ≡ book_of self) }
@@ -84,9 +86,11 @@ impl Weighed {
             OnOk result (out.new.items ≡ out.old.items ++ lines) }
     {
         match self {
-            Weighed::ByKinds(session) => Ok(Weighed::ByKinds(go(session, question, out)?)),
-            Weighed::ByBundles(session) => Ok(Weighed::ByBundles(go(session, question, out)?)),
-            Weighed::ByTally(session) => Ok(Weighed::ByTally(go(session, question, out)?)),
+            Weighed::ByKinds(session) => Ok(Weighed::ByKinds(go(session, question, heap, out)?)),
+            Weighed::ByBundles(session) => Ok(Weighed::ByBundles(go(
+                session, question, heap, out,
+            )?)),
+            Weighed::ByTally(session) => Ok(Weighed::ByTally(go(session, question, heap, out)?)),
         }
     }
 }
@@ -95,53 +99,60 @@ impl Weighed {
 #[derive(Drop)]
 pub(crate) struct Work {
     pub(crate) session: Weighed,
-    pub(crate) question: Draft,
+    pub(crate) question: Box<Draft>,
 }
 
 impl Work {
     ghost use Rattle.script.specs.Stages.{Phase, work_phase};
 
     // With no question yet.
-    fn begun(session: Weighed, heap: Global) -> Result<Box<Work>, AllocError>
+    fn begun(session: Weighed, heap: Global) -> Result<Work, AllocError>
         ensures { IfOk result (λ work.
-            work_phase work.value ≡ Phase.Work (weighed_by session) (book_of session) []) }
+            work_phase work ≡ Phase.Work (weighed_by session) (book_of session) []) }
     {
-        let question = Draft::new();
-        Ok(Box::new(heap, Work { session, question })?)
+        let question = Box::new(heap, Draft::new())?;
+        Ok(Work { session, question })
     }
 
-    pub(crate) fn by_kinds(network: AnyNetwork, heap: Global) -> Result<Box<Work>, AllocError>
+    pub(crate) fn by_kinds(network: AnyNetwork, heap: Global) -> Result<Work, AllocError>
         ensures { let book = opened (meant network) in
-            IfOk result (λ work. work_phase work.value ≡ Phase.Work Weighing.Kinds book []) }
+            IfOk result (λ work. work_phase work ≡ Phase.Work Weighing.Kinds book []) }
     {
-        Work::begun(Weighed::ByKinds(Open::new(network, Kinds)), heap)
+        let session = Box::new(heap, Open::new(network, Kinds))?;
+        Work::begun(Weighed::ByKinds(session), heap)
     }
 
-    pub(crate) fn by_bundles(network: AnyNetwork, heap: Global) -> Result<Box<Work>, AllocError>
+    pub(crate) fn by_bundles(network: AnyNetwork, heap: Global) -> Result<Work, AllocError>
         ensures { let book = opened (meant network) in
-            IfOk result (λ work. work_phase work.value ≡ Phase.Work Weighing.Bundles book []) }
+            IfOk result (λ work. work_phase work ≡ Phase.Work Weighing.Bundles book []) }
     {
-        Work::begun(Weighed::ByBundles(Open::new(network, Bundles)), heap)
+        let session = Box::new(heap, Open::new(network, Bundles))?;
+        Work::begun(Weighed::ByBundles(session), heap)
     }
 
-    pub(crate) fn by_tally(network: AnyNetwork, heap: Global) -> Result<Box<Work>, AllocError>
+    pub(crate) fn by_tally(network: AnyNetwork, heap: Global) -> Result<Work, AllocError>
         ensures { let book = opened (meant network) in
-            IfOk result (λ work. work_phase work.value ≡ Phase.Work Weighing.Tally book []) }
+            IfOk result (λ work. work_phase work ≡ Phase.Work Weighing.Tally book []) }
     {
-        Work::begun(Weighed::ByTally(Open::new(network, Tally)), heap)
+        let session = Box::new(heap, Open::new(network, Tally))?;
+        Work::begun(Weighed::ByTally(session), heap)
     }
 
     // Settles, lists and asks, and opens again, with no question yet.
-    pub(crate) fn go(work: Box<Work>, heap: Global, out: &mut Vec<u8>) -> io::Result<Box<Work>>
-        ensures work { let by = weighed_by work.value.session in
-            let book = book_of work.value.session in
-            IfOk result (λ next. work_phase next.value ≡ Phase.Work by book []) }
-        ensures printed { let by = weighed_by work.value.session in
-            let lines = go_by by (book_of work.value.session) work.value.question.lines.items in
-            OnOk result (out.new.items ≡ out.old.items ++ lines) }
+    pub(crate) fn go(self, heap: Global, out: &mut Vec<u8>) -> io::Result<Work>
+        ensures work { let by = weighed_by self.session in
+            let book = book_of self.session in
+            IfOk result (λ next. work_phase next ≡ Phase.Work by book []) }
+        ensures printed { let lines = self.question.value.lines.items in
+            let printed = go_by (weighed_by self.session) (book_of self.session) lines in
+            OnOk result (out.new.items ≡ out.old.items ++ printed) }
     {
-        let Work { session, question } = Box::into_inner(work);
-        let session = session.go(question.lines(), out)?;
-        Ok(Work::begun(session, heap)?)
+        let Work {
+            session,
+            mut question,
+        } = self;
+        let session = session.go(question.lines(), heap, out)?;
+        question.clear();
+        Ok(Work { session, question })
     }
 }
