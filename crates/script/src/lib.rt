@@ -16,6 +16,8 @@ mod cutting;
 mod any_network;
 // A question that is added to.
 mod draft;
+// The lines that are printed.
+mod lines;
 // What GO prints.
 mod listing;
 // The work on a network.

@@ -5,11 +5,12 @@ ghost use Rattle.driving.specs.Book.{book_in};
 ghost use Rattle.session.specs.SettledSessions.{settled_state};
 ghost use Rattle.script.specs.Listings.{heads, role_total, settled_lines, split_total, true_lines};
 
+use super::lines::{print_node, print_totals, print_true};
 use measure::interface::Measure;
 use network::interface::{Editable, Readable};
 use question::line::Line;
 use session::settled::Settled;
-use std::io::{self, Write};
+use std::io;
 
 // How many roles there are, and how many splits.
 fn totals<N: Editable, M: Measure>(settled: &Settled<N, M>) -> (usize, usize)
@@ -38,16 +39,17 @@ pub(crate) fn print_roles<N: Editable, M: Measure>(
         OnOk result (out.new.items ≡ out.old.items ++ settled_lines M.Measure.ops book) }
 {
     let (roles, splits) = totals(settled);
-    writeln!(out, "GO {roles} {splits}")?;
+    print_totals(roles, splits, out)?;
     for x in 0..settled.network().nodes() {
-        writeln!(out, "NO {x} {}", head_of(settled, x))?;
+        let head = head_of(settled, x);
+        print_node(x, head, out)?;
     }
     Ok(())
 }
 
 // The nodes that the question is true of. The roles are asked.
 #[tactic(auto, unfolding(crate::specs::Listings::true_lines))]
-pub(crate) fn print_true<N: Editable, M: Measure>(
+pub(crate) fn print_answer<N: Editable, M: Measure>(
     settled: &Settled<N, M>,
     question: &[Line],
     out: &mut Vec<u8>,
@@ -67,7 +69,7 @@ pub(crate) fn print_true<N: Editable, M: Measure>(
         let role = settled.role_of(x).unwrap();
         let answer = area[start + role];
         if answer == 1 {
-            writeln!(out, "QU {x}")?;
+            print_true(x, out)?;
         }
     }
     Ok(())

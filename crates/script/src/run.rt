@@ -1,28 +1,20 @@
 // A whole script, record by record.
 ghost use Rattle.std.specs.Prelude.{◌≡◌, ◌++◌, ◌+◌, ◌<◌, ◌≤◌, length, IfOk, OnOk, OnErr};
 ghost use Rattle.std.specs.List.{after_first, before_first};
-ghost use Rattle.script.specs.Faults.{number};
 ghost use Rattle.script.specs.Transcripts.{limit, newline, play, refusals, transcript};
 ghost use Rattle.script.specs.Laws.{ScriptLaws};
 ghost use Rattle.script.specs.Stages.{answer_in, next_phase, outcome, phase_of, printed_in};
-ghost use Rattle.script.specs.Words.{refusal_line};
 
 use super::cutting::len_before;
 use super::faults::{Fault, Reason};
+use super::lines::print_refusal;
 use super::reading::read;
 use super::stage::Stage;
 use std::alloc::Global;
-use std::io::{self, Write};
+use std::io;
 
 // A script of more bytes is refused as a whole.
 const LIMIT: usize = 32_768;
-
-fn print_refusal(fault: Fault, out: &mut Vec<u8>) -> io::Result<()>
-    ensures { let line = refusal_line fault.«record» (number fault.reason) in
-        OnOk result (out.new.items ≡ out.old.items ++ line) }
-{
-    writeln!(out, "ER {} {}", fault.record, fault.reason.number())
-}
 
 // The first line, and what stands behind its line feed.
 fn cut(rest: &[u8]) -> (&[u8], &[u8])

@@ -1,15 +1,15 @@
 // The stages of a script, and what a record does at each.
 ghost use Rattle.std.specs.Prelude.{◌≡◌, ◌++◌, IfOk, OnOk};
 ghost use Rattle.script.specs.Records.{said_in};
-ghost use Rattle.script.specs.Words.{remark_line};
 
 use super::any_network::AnyNetwork;
 use super::draft::Draft;
 use super::faults::Reason;
+use super::lines::print_remark;
 use super::record::Record;
 use super::work::Work;
 use std::alloc::Global;
-use std::io::{self, Write};
+use std::io;
 
 // What the script names next, or works on.
 #[derive(Drop)]
@@ -17,14 +17,6 @@ pub(crate) enum Stage {
     Network,
     Measure(AnyNetwork),
     Work(Work),
-}
-
-fn print_remark(text: &[u8], out: &mut Vec<u8>) -> io::Result<()>
-    ensures { OnOk result (out.new.items ≡ out.old.items ++ remark_line text.now) }
-{
-    out.write_all(b"RM")?;
-    out.write_all(text)?;
-    out.write_all(b"\n")
 }
 
 impl Stage {

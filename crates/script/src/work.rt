@@ -11,7 +11,7 @@ ghost use Rattle.script.specs.Works.{Weighing, book_of, go_by, weighed_by};
 
 use super::any_network::AnyNetwork;
 use super::draft::Draft;
-use super::listing::{print_roles, print_true};
+use super::listing::{print_answer, print_roles};
 use measure::bundles::Bundles;
 use measure::interface::Measure;
 use measure::kinds::Kinds;
@@ -39,7 +39,7 @@ fn go<N: Editable + Drop, M: Measure + Drop>(
 {
     let settled = Box::into_inner(session).settle();
     print_roles(&settled, out)?;
-    print_true(&settled, question, out)?;
+    print_answer(&settled, question, out)?;
     Ok(Box::new(heap, settled.reopen())?)
 }
 

@@ -10,4 +10,4 @@ abbrev pub invariant-loop-x : goal.invariant-loop-x
 invariant-loop-x g l =
     let o = g.M.Measure.ops in
     let book = book_in (settled_state l.settled) in
-    l.out.items ≡ l.initial.out.items ++ each_below (λ x. node_line x (heads o book x)) l.x-counter
+    l.out.items ≡ l.initial.out.items ++ each_below (λ x. node_line x (heads o book x)) l.x

@@ -11,8 +11,8 @@ use Rattle.script.specs.Listings.{is_true}
 use Rattle.script.specs.Words.{true_line}
 use Rattle.script.proofs.Asking.{never_refused}
 use Rattle.script.proofs.Printing.{printed_more, printed_same, true_lines_none}
-use Rattle.script.proofs.listing.print_true.Goals as goal
-use Rattle.script.proofs.listing.print_true.Goals.{then-answer-eq1+in_ok-writeln, else-answer-eq1}
+use Rattle.script.proofs.listing.print_answer.Goals as goal
+use Rattle.script.proofs.listing.print_answer.Goals.{then-answer-eq1+in_ok-print_true, else-answer-eq1}
 
 pub returns-then-is_empty : goal.returns-then-is_empty
 returns-then-is_empty g c =
@@ -40,7 +40,7 @@ pub loop-x-preserved : goal.loop-x-preserved
 loop-x-preserved g c =
     let o = g.M.Measure.ops in
     let state = settled_state c.args.settled.now in
-    let x = c.loop-x.x-counter in
+    let x = c.loop-x.x in
     let says = is_true o (book_in state) c.args.question.now in
     let nodes = c.nodes-x-end.ensures.value ∙ ap (λ n. (g.N.Readable.meaning n).nodes) c.network.ensures in
     let within : x < state.network.nodes = omega (arith, c.loop-x-test.true, nodes) in
@@ -49,8 +49,8 @@ loop-x-preserved g c =
     let role_is : c.unwrap-role.result ≡ role state x = grind (arith, nat_tests, within, c.role_of.ensures.answer, c.unwrap-role.ensures) in
     let so_far = c.loop-x.invariant in
     elim c.if-answer-eq1.branch [
-      | then-answer-eq1+in_ok-writeln w ↦
-          ap (λ v. v.items) w.out-is ∙ w.in_ok-writeln.ensures.bytes
+      | then-answer-eq1+in_ok-print_true w ↦
+          ap (λ v. v.items) w.out-is ∙ w.in_ok-print_true.ensures
           ∙ printed_more says true_line x _ _ so_far (bit_true (says x) (sym byte ∙ rw role_is at w.if-answer-eq1.true))
       | else-answer-eq1 w ↦
           ap (λ v. v.items) w.out-is
