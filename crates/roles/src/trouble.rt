@@ -1,5 +1,6 @@
 // What ends the program with an error: input that cannot be read, want of memory, or output that
 // cannot be written.
+use std::alloc::AllocError;
 use std::{fmt, io};
 use thiserror::Error;
 
@@ -8,7 +9,7 @@ pub enum Trouble {
     #[error("the input cannot be read")]
     Input(#[source] io::Error),
     #[error("out of memory")]
-    Memory(#[source] io::Error),
+    Memory(#[from] AllocError),
     #[error("the output cannot be written")]
     Output(#[source] io::Error),
 }

@@ -25,7 +25,7 @@ use Rattle.script.specs.Networks.{enough, matrix_named, two_mode_named}
 use Rattle.script.specs.Records.{Said, parse}
 use Rattle.script.specs.Stages.{Phase, Outcome, named, does, outcome, next_phase}
 use Rattle.script.specs.Transcripts.{Played, blank, play}
-use Rattle.script.specs.Works.{Weighing}
+use Rattle.script.specs.Works.{Chosen}
 use Rattle.script.specs.declared.faults.Reason.{Reason}
 
 -- the phase after what a record says
@@ -59,7 +59,7 @@ module _ {X : Type 0} (Says : Result Said Reason → X → Type 0) (line : List 
         says = first.says;
       }
 
-module _ (by : Weighing) (book : Book) (lines : List Line) where
+module _ (by : Chosen) (book : Book) (lines : List Line) where
   abbrev here : Phase
   here = Phase.Work by book lines
 
@@ -105,7 +105,7 @@ edit_first book other more = refl
 abbrev asked_from : List Line → List (List ℕ) → List Line
 asked_from lines rs = fold (λ lines line. drafted lines (parse line)) lines rs
 
-from_work : (rs : List (List ℕ)) (p : Played) (by : Weighing) (book : Book) (lines : List Line) → p.phase ≡ Phase.Work by book lines → (fold play p rs).phase ≡ Phase.Work by (fold book_after book (edits rs)) (asked_from lines rs)
+from_work : (rs : List (List ℕ)) (p : Played) (by : Chosen) (book : Book) (lines : List Line) → p.phase ≡ Phase.Work by book lines → (fold play p rs).phase ≡ Phase.Work by (fold book_after book (edits rs)) (asked_from lines rs)
 from_work [] p by book lines e = e
 from_work (line ∷ rs) p by book lines e =
     let next = play_phase p line ∙ ap (λ phase. turn phase (parse line)) e ∙ worked by book lines (parse line) in
@@ -114,7 +114,7 @@ from_work (line ∷ rs) p by book lines e =
 
 abbrev Measured : Meaning → Result Said Reason → Phase → Type 0
 Measured m said Phase.Network = ⊥
-Measured m said (Phase.Measure n) = (n ≡ m) × ((by : Weighing) → Chooses said by → ⊥)
+Measured m said (Phase.Measure n) = (n ≡ m) × ((by : Chosen) → Chooses said by → ⊥)
 Measured m said (Phase.Work by book lines) = Chooses said by × (book ≡ opened m) × (lines ≡ [])
 
 measured : (m : Meaning) (said : Result Said Reason) → Measured m said (turn (Phase.Measure m) said)
@@ -129,7 +129,7 @@ Middle m rs Phase.Network = ⊥
 Middle m rs (Phase.Measure n) = (n ≡ m) × Silent Chooses rs
 Middle m rs (Phase.Work by book lines) = (since : List (List ℕ)) × First Chooses rs by since × (book ≡ fed m since) × (lines ≡ asked since)
 
-middle_later : (m : Meaning) (line : List ℕ) (rs : List (List ℕ)) → ((by : Weighing) → Chooses (parse line) by → ⊥) → (phase : Phase) → Middle m rs phase → Middle m (line ∷ rs) phase
+middle_later : (m : Meaning) (line : List ℕ) (rs : List (List ℕ)) → ((by : Chosen) → Chooses (parse line) by → ⊥) → (phase : Phase) → Middle m rs phase → Middle m (line ∷ rs) phase
 middle_later m line rs mute Phase.Network none = none
 middle_later m line rs mute (Phase.Measure n) (same, silent) = (same, silent_more Chooses line rs mute silent)
 middle_later m line rs mute (Phase.Work by book lines) (since, first, kept, question) = (since, first_later Chooses line rs by since mute first, kept, question)

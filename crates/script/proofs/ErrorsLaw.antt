@@ -30,9 +30,9 @@ use Rattle.script.specs.Networks.{enough, matrix_named, two_mode_named}
 use Rattle.script.specs.RecordLaw.{written}
 use Rattle.script.specs.Records.{Said, parse}
 use Rattle.script.specs.Stages.{Phase, Outcome, named, does, outcome}
-use Rattle.script.specs.Transcripts.{Played, blank, fault_at, limit, newline, play, played, records, too_long, unless_empty, went}
+use Rattle.script.specs.Transcripts.{Played, blank, fault_at, limit, newline, play, played, records, too_long, without_empty_last, after_outcome}
 use Rattle.script.specs.Words.{refusal_line, settled_line, node_line, true_line, remark_line}
-use Rattle.script.specs.Works.{Weighing, go_by}
+use Rattle.script.specs.Works.{Chosen, go_by}
 use Rattle.script.specs.declared.faults.Fault.{Fault}
 use Rattle.script.specs.declared.faults.Reason.{Reason}
 use Rattle.script.proofs.RecordLaw.{record_law}
@@ -85,7 +85,7 @@ plain_parts (b ∷ bytes) = by_test (plain_parts bytes) (newline b) refl
     by_test more true is = rw is (tt, more)
     by_test more false is = rw is (plain_onto_first b (slice_split newline bytes) is more)
 
-plain_unless_empty : (parts : List (List ℕ)) → EachPlain parts → EachPlain (unless_empty parts)
+plain_unless_empty : (parts : List (List ℕ)) → EachPlain parts → EachPlain (without_empty_last parts)
 plain_unless_empty [] plain = tt
 plain_unless_empty (last ∷ []) (plain, end) = by_test (eqb (length last) 0)
   where
@@ -179,10 +179,10 @@ module _ {V : Type 0} (o : Operations V) (book : Book) where
   unfolding go_lines
   quiet_go_lines lines = errors-append (settled_lines o book) (true_lines o book lines) [] [] quiet_settled_lines (quiet_true_lines lines)
 
-quiet_go : (by : Weighing) (book : Book) (lines : List Line) → Errors (go_by by book lines) []
-quiet_go Weighing.Kinds book lines = quiet_go_lines kinds book lines
-quiet_go Weighing.Bundles book lines = quiet_go_lines bundles book lines
-quiet_go Weighing.Tally book lines = quiet_go_lines tally book lines
+quiet_go : (by : Chosen) (book : Book) (lines : List Line) → Errors (go_by by book lines) []
+quiet_go Chosen.Kinds book lines = quiet_go_lines kinds book lines
+quiet_go Chosen.Bundles book lines = quiet_go_lines bundles book lines
+quiet_go Chosen.Tally book lines = quiet_go_lines tally book lines
 
 abbrev Quiet : Outcome → Type 0
 Quiet did = MatchResult did (λ next. Errors next.1 []) (λ why. Unit {0})
@@ -232,7 +232,7 @@ quiet_acted phase line (Err why) is plain = tt
 abbrev Told : Played → Type 0
 Told p = Errors p.printed (map error_text p.faults)
 
-told_after : (p : Played) (line : List ℕ) (did : Outcome) → Quiet did → Told p → Told (went p line did)
+told_after : (p : Played) (line : List ℕ) (did : Outcome) → Quiet did → Told p → Told (after_outcome p line did)
 told_after p line (Ok next) quiet told =
     subst (λ errors. Errors (p.printed ++ next.1) errors) (append-nil (map error_text p.faults))
     (errors-append p.printed next.1 (map error_text p.faults) [] told quiet)

@@ -25,9 +25,9 @@ use Rattle.script.specs.FormsLaw.{Printed, shown, IsLine, InForms, FormsLaw}
 use Rattle.script.specs.Listings.{each_below, heads, role_total, split_total, settled_lines, is_true, true_lines, go_lines}
 use Rattle.script.specs.Records.{Said, parse}
 use Rattle.script.specs.Stages.{Phase, Outcome, does, outcome, printed_in}
-use Rattle.script.specs.Transcripts.{newline, unless_empty, records, Played, blank, play, played, limit, transcript}
+use Rattle.script.specs.Transcripts.{newline, without_empty_last, records, Played, blank, play, played, limit, transcript}
 use Rattle.script.specs.Words.{refusal_line, settled_line, node_line, true_line, remark_line}
-use Rattle.script.specs.Works.{Weighing, go_by}
+use Rattle.script.specs.Works.{Chosen, go_by}
 use Rattle.script.specs.declared.faults.Reason.{Reason}
 use Rattle.script.proofs.RecordLaw.{record_law}
 
@@ -125,10 +125,10 @@ module _ {V : Type 0} (o : Operations V) (book : Book) where
   unfolding go_lines
   go_printed lines = both_printed (settled_lines o book) (true_lines o book lines) settled_printed (trues_printed lines)
 
-go_by_printed : (by : Weighing) (book : Book) (lines : List Line) → InForms (go_by by book lines)
-go_by_printed Weighing.Kinds book lines = go_printed kinds book lines
-go_by_printed Weighing.Bundles book lines = go_printed bundles book lines
-go_by_printed Weighing.Tally book lines = go_printed tally book lines
+go_by_printed : (by : Chosen) (book : Book) (lines : List Line) → InForms (go_by by book lines)
+go_by_printed Chosen.Kinds book lines = go_printed kinds book lines
+go_by_printed Chosen.Bundles book lines = go_printed bundles book lines
+go_by_printed Chosen.Tally book lines = go_printed tally book lines
 
 abbrev Sayable : Said → Type 0
 Sayable (Said.Remark text) = Inline text
@@ -179,10 +179,10 @@ split_inline (b ∷ bytes) = by_test (split_inline bytes) (newline b) refl
     by_test more true e = All-cons Inline [] (slice_split newline bytes) inline_nil more
     by_test more false e = onto_inline b (slice_split newline bytes) (newline_plain b e) more
 
-unless_empty_inline : (parts : List (List ℕ)) → All Inline parts → All Inline (unless_empty parts)
-unless_empty_inline [] i = i
-unless_empty_inline (last ∷ []) i = either (All Inline) (eqb (length last) 0) [] (last ∷ []) (All-nil Inline) i
-unless_empty_inline (part ∷ next ∷ more) i = All-cons Inline part (unless_empty (next ∷ more)) (All-head Inline part (next ∷ more) i) (unless_empty_inline (next ∷ more) (All-tail Inline part (next ∷ more) i))
+without_empty_last_inline : (parts : List (List ℕ)) → All Inline parts → All Inline (without_empty_last parts)
+without_empty_last_inline [] i = i
+without_empty_last_inline (last ∷ []) i = either (All Inline) (eqb (length last) 0) [] (last ∷ []) (All-nil Inline) i
+without_empty_last_inline (part ∷ next ∷ more) i = All-cons Inline part (without_empty_last (next ∷ more)) (All-head Inline part (next ∷ more) i) (without_empty_last_inline (next ∷ more) (All-tail Inline part (next ∷ more) i))
 
 play_printed : (p : Played) (bytes : List ℕ) → InForms p.printed → Inline bytes → InForms (play p bytes).printed
 play_printed p bytes before i = by_outcome (outcome p.phase bytes) refl (outcome_printed p.phase bytes i)
@@ -199,7 +199,7 @@ played_printed p (bytes ∷ lines) before i = played_printed (play p bytes) line
 script_printed : (script : List ℕ) → InForms (transcript script)
 script_printed script =
     either InForms (leb (length script) limit) (played script).printed (refusal_line 0 15)
-    (played_printed blank (records script) none_printed (unless_empty_inline (slice_split newline script) (split_inline script)))
+    (played_printed blank (records script) none_printed (without_empty_last_inline (slice_split newline script) (split_inline script)))
     (refusal_printed 0 15)
 
 pub forms_law : FormsLaw

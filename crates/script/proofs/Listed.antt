@@ -12,7 +12,7 @@ use Rattle.driving.specs.Book.{Book}
 use Rattle.script.specs.Listings.{heads, role_total, split_total, settled_lines, true_lines, go_lines, each_below}
 use Rattle.script.specs.Listed.{Listed, ListedBy}
 use Rattle.script.specs.Words.{node_line}
-use Rattle.script.specs.Works.{Weighing, go_by}
+use Rattle.script.specs.Works.{Chosen, go_by}
 use Rattle.script.proofs.Printing.{true_lines_none}
 
 module _ {V : Type 0} (o : Operations V) (laws : Laws o) (book : Book) where
@@ -38,7 +38,7 @@ module _ {V : Type 0} (o : Operations V) (laws : Laws o) (book : Book) where
         unasked = λ none. true_lines_none o book lines (ap (λ (ls : List Line). length ls) none);
       }
 
-pub go_listed_by : (by : Weighing) (book : Book) (lines : List Line) → ListedBy by book lines (go_by by book lines)
-go_listed_by Weighing.Kinds = go_listed _ kinds_laws
-go_listed_by Weighing.Bundles = go_listed _ bundles_laws
-go_listed_by Weighing.Tally = go_listed _ tally_laws
+pub go_listed_by : (by : Chosen) (book : Book) (lines : List Line) → ListedBy by book lines (go_by by book lines)
+go_listed_by Chosen.Kinds = go_listed _ kinds_laws
+go_listed_by Chosen.Bundles = go_listed _ bundles_laws
+go_listed_by Chosen.Tally = go_listed _ tally_laws

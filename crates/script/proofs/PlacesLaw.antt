@@ -14,7 +14,7 @@ use Rattle.std.proofs.lemmas.List.Sums.{fails_before_first, passes_at_first, spl
 use Rattle.script.specs.PlacesLaw.{Placed, PlacesLaw}
 use Rattle.script.specs.SequenceLaw.{afresh}
 use Rattle.script.specs.Stages.{Outcome, outcome}
-use Rattle.script.specs.Transcripts.{Played, blank, fault_at, newline, play, records, refusals, went}
+use Rattle.script.specs.Transcripts.{Played, blank, fault_at, newline, play, records, refusals, after_outcome}
 use Rattle.script.specs.declared.faults.Fault.{Fault}
 use Rattle.script.proofs.SequenceLaw.{refusals_within}
 use Rattle.script.proofs.Sequences.{count_after, faults_on, offset_after, records_before, records_first, width}
@@ -97,7 +97,7 @@ record From (p : Played) (rs : List (List ℕ)) (f : Fault) : Type 0 where
   pub place : f.offset ≡ p.offset + sum_by width before
 
 module _ (p : Played) (line : List ℕ) (rs : List (List ℕ)) where
-  from_now : p.faults ≡ [] → (did : Outcome) → All (From p (line ∷ rs)) (went p line did).faults
+  from_now : p.faults ≡ [] → (did : Outcome) → All (From p (line ∷ rs)) (after_outcome p line did).faults
   from_now none (Ok next) = All-same (From p (line ∷ rs)) p.faults [] none (All-nil (From p (line ∷ rs)))
   from_now none (Err why) =
       let Here : Fault → Type 0 = From p (line ∷ rs) in

@@ -23,16 +23,16 @@ use Rattle.script.specs.Networks.{enough, matrix_named, two_mode_named}
 use Rattle.script.specs.Records.{Said, parse, parse_matrix, parse_two_mode, parse_put, parse_colour, parse_of_colour, parse_not, parse_and, parse_tied, after, after_byte, ended, is_mark}
 use Rattle.script.specs.Stages.{Phase, Outcome, named, does, outcome}
 use Rattle.script.specs.RefusedLaw.{Refused, Accepted, RefusedLaw, belongs, StageLaw, OrderLaw}
-use Rattle.script.specs.Transcripts.{Played, play, went}
+use Rattle.script.specs.Transcripts.{Played, play, after_outcome}
 use Rattle.script.specs.declared.faults.Reason.{Reason}
 
 each_of : (p : Played) (line : List ℕ) (did : Outcome) → outcome p.phase line ≡ did → MatchResult did (Accepted p line) (Refused p line)
 each_of p line (Ok next) is =
-    let so : play p line ≡ went p line (Ok next) = ap (went p line) is in
-    record { phase = ap (λ (q : Played). q.phase) so; printed = ap (λ (q : Played). q.printed) so; faults = ap (λ (q : Played). q.faults) so }
+    let so : play p line ≡ after_outcome p line (Ok next) = ap (after_outcome p line) is in
+    record { phase = ap (λ (q : Played). q.phase) so; printed = ap (λ (q : Played). q.printed) so; faults = ap (λ (q : Played). q.faults) so; count = ap (λ (q : Played). q.count) so; offset = ap (λ (q : Played). q.offset) so }
 each_of p line (Err why) is =
-    let so : play p line ≡ went p line (Err why) = ap (went p line) is in
-    record { phase = ap (λ (q : Played). q.phase) so; printed = ap (λ (q : Played). q.printed) so; faults = ap (λ (q : Played). q.faults) so }
+    let so : play p line ≡ after_outcome p line (Err why) = ap (after_outcome p line) is in
+    record { phase = ap (λ (q : Played). q.phase) so; printed = ap (λ (q : Played). q.printed) so; faults = ap (λ (q : Played). q.faults) so; count = ap (λ (q : Played). q.count) so; offset = ap (λ (q : Played). q.offset) so }
 
 pub refused_law : RefusedLaw
 refused_law = record { each = λ p line. each_of p line (outcome p.phase line) refl }

@@ -1,6 +1,6 @@
 -- Scripts in sequence. Assumes nothing.
 --
---   went    a script after a record of this outcome
+--   after_outcome    a script after a record of this outcome
 --   ahead            the same with this printed and refused before it
 --   width            how many bytes a record takes, with its line feed
 use Rattle.std.proofs.Common.{◌≡◌, ℕ, ◌+◌, ◌<◌, Bool, true, false, eqb, List, [], ◌∷◌, ◌++◌, length, Ok, Err, refl, ap, ◌∙◌, inl, inr, append_assoc, arith}
@@ -12,19 +12,19 @@ use Rattle.std.proofs.lemmas.List.Sums.{fails_before_first, sum_by-cons}
 use Rattle.std.proofs.lemmas.List.Splits.{length-slice_split, slice_split_first, slice_split_none}
 use Rattle.script.specs.SequenceLaw.{afresh}
 use Rattle.script.specs.Stages.{Outcome, outcome}
-use Rattle.script.specs.Transcripts.{Played, newline, play, records, unless_empty, went}
+use Rattle.script.specs.Transcripts.{Played, newline, play, records, without_empty_last, after_outcome}
 use Rattle.script.specs.declared.faults.Fault.{Fault}
 
-unless_empty_part : (part : List ℕ) (parts : List (List ℕ)) → 0 < length parts → unless_empty (part ∷ parts) ≡ part ∷ unless_empty parts
-unless_empty_part part [] some = absurd (omega arith)
-unless_empty_part part (next ∷ more) some = refl
+without_empty_last_part : (part : List ℕ) (parts : List (List ℕ)) → 0 < length parts → without_empty_last (part ∷ parts) ≡ part ∷ without_empty_last parts
+without_empty_last_part part [] some = absurd (omega arith)
+without_empty_last_part part (next ∷ more) some = refl
 
 -- a part before another is a record
-records_part : (part bytes : List ℕ) → unless_empty (part ∷ slice_split newline bytes) ≡ part ∷ records bytes
-records_part part bytes = unless_empty_part part (slice_split newline bytes) (omega (arith, length-slice_split newline bytes))
+records_part : (part bytes : List ℕ) → without_empty_last (part ∷ slice_split newline bytes) ≡ part ∷ records bytes
+records_part part bytes = without_empty_last_part part (slice_split newline bytes) (omega (arith, length-slice_split newline bytes))
 
-unless_empty_last : (last : List ℕ) → 0 < length last → unless_empty (last ∷ []) ≡ last ∷ []
-unless_empty_last last some = let long : eqb (length last) 0 ≡ false = grind (arith, nat_tests) in rw long
+without_empty_last_last : (last : List ℕ) → 0 < length last → without_empty_last (last ∷ []) ≡ last ∷ []
+without_empty_last_last last some = let long : eqb (length last) 0 ≡ false = grind (arith, nat_tests) in rw long
 
 pub records_none : records [] ≡ []
 records_none = refl
@@ -32,12 +32,12 @@ records_none = refl
 pub records_first : (xs : List ℕ) → 0 < length xs → records xs ≡ before_first newline xs ∷ records (after_first newline xs)
 records_first xs some =
     elim (cases_lt (position_or_len newline xs) (length xs)) [
-      | inl within ↦ ap unless_empty (slice_split_first newline xs 0 within) ∙ records_part (before_first newline xs) (after_first newline xs)
+      | inl within ↦ ap without_empty_last (slice_split_first newline xs 0 within) ∙ records_part (before_first newline xs) (after_first newline xs)
       | inr past ↦
           let all : before_first newline xs ≡ xs = take_all (position_or_len newline xs) xs past in
           let none : after_first newline xs ≡ [] = drop_all (position_or_len newline xs + 1) xs (omega arith) in
           let one : slice_split newline xs ≡ xs ∷ [] = slice_split_none newline xs (λ k d l. fails_before_first newline xs k d (omega arith)) in
-          rw (all, none) (ap unless_empty one ∙ unless_empty_last xs some)
+          rw (all, none) (ap without_empty_last one ∙ without_empty_last_last xs some)
     ]
 
 onto_first-append : (x : ℕ) (parts more : List (List ℕ)) → 0 < length parts → onto_first x (parts ++ more) ≡ onto_first x parts ++ more
@@ -52,14 +52,14 @@ split_cut (x ∷ a) b = by_test (split_cut a b) (newline x) refl
     by_test later true is = rw is (ap (λ parts. [] ∷ parts) later)
     by_test later false is = rw is (ap (onto_first x) later ∙ onto_first-append x (slice_split newline a) (slice_split newline b) (omega (arith, length-slice_split newline a)))
 
-unless_empty-append : (parts more : List (List ℕ)) → 0 < length more → unless_empty (parts ++ more) ≡ parts ++ unless_empty more
-unless_empty-append [] more some = refl
-unless_empty-append (part ∷ parts) more some =
-    unless_empty_part part (parts ++ more) (omega (arith, length-append parts more)) ∙ ap (λ parts. part ∷ parts) (unless_empty-append parts more some)
+without_empty_last-append : (parts more : List (List ℕ)) → 0 < length more → without_empty_last (parts ++ more) ≡ parts ++ without_empty_last more
+without_empty_last-append [] more some = refl
+without_empty_last-append (part ∷ parts) more some =
+    without_empty_last_part part (parts ++ more) (omega (arith, length-append parts more)) ∙ ap (λ parts. part ∷ parts) (without_empty_last-append parts more some)
 
 -- what stands before a line feed is so many records
 pub records_before : (a b : List ℕ) → records (a ++ 10 ∷ b) ≡ slice_split newline a ++ records b
-records_before a b = ap unless_empty (split_cut a b) ∙ unless_empty-append (slice_split newline a) (slice_split newline b) (omega (arith, length-slice_split newline b))
+records_before a b = ap without_empty_last (split_cut a b) ∙ without_empty_last-append (slice_split newline a) (slice_split newline b) (omega (arith, length-slice_split newline b))
 
 pub records_ended : (a : List ℕ) → records (a ++ 10 ∷ []) ≡ slice_split newline a
 records_ended a = records_before a [] ∙ append-nil (slice_split newline a)
@@ -71,7 +71,7 @@ module _ (printed : List ℕ) (faults : List Fault) where
   abbrev ahead : Played → Played
   ahead p = record { phase = p.phase; count = p.count; offset = p.offset; printed = printed ++ p.printed; faults = faults ++ p.faults }
 
-  after_ahead : (p : Played) (line : List ℕ) (did : Outcome) → went (ahead p) line did ≡ ahead (went p line did)
+  after_ahead : (p : Played) (line : List ℕ) (did : Outcome) → after_outcome (ahead p) line did ≡ ahead (after_outcome p line did)
   after_ahead p line (Ok next) = simp append_assoc
   after_ahead p line (Err why) = simp append_assoc
 
@@ -103,14 +103,14 @@ offset_on p rs = ap (λ (q : Played). q.offset) (played_on p rs)
 pub count_after : (p : Played) (line : List ℕ) → (play p line).count ≡ p.count + 1
 count_after p line = by_outcome (outcome p.phase line)
   where
-    by_outcome : (did : Outcome) → (went p line did).count ≡ p.count + 1
+    by_outcome : (did : Outcome) → (after_outcome p line did).count ≡ p.count + 1
     by_outcome (Ok next) = refl
     by_outcome (Err why) = refl
 
 pub offset_after : (p : Played) (line : List ℕ) → (play p line).offset ≡ p.offset + (length line + 1)
 offset_after p line = by_outcome (outcome p.phase line)
   where
-    by_outcome : (did : Outcome) → (went p line did).offset ≡ p.offset + (length line + 1)
+    by_outcome : (did : Outcome) → (after_outcome p line did).offset ≡ p.offset + (length line + 1)
     by_outcome (Ok next) = refl
     by_outcome (Err why) = refl
 

@@ -27,7 +27,7 @@ use Rattle.script.specs.Drafts.{lines_after}
 use Rattle.script.specs.Records.{Said, parse}
 use Rattle.script.specs.Stages.{Phase}
 use Rattle.script.specs.Transcripts.{blank, play}
-use Rattle.script.specs.Works.{Weighing}
+use Rattle.script.specs.Works.{Chosen}
 use Rattle.script.specs.declared.faults.Reason.{Reason}
 
 abbrev pub Names : Result Said Reason → Meaning → Type 0
@@ -35,10 +35,10 @@ Names (Ok (Said.Matrix n)) m = (m ≡ untied n) × (0 < n) × (n ≤ 128)
 Names (Ok (Said.TwoMode a b)) m = (m ≡ untied_sides (a, b)) × (0 < a) × (0 < b) × (a + b ≤ 128)
 Names other m = ⊥
 
-abbrev pub Chooses : Result Said Reason → Weighing → Type 0
-Chooses (Ok Said.Kinds) by = by ≡ Weighing.Kinds
-Chooses (Ok Said.Bundles) by = by ≡ Weighing.Bundles
-Chooses (Ok Said.Tally) by = by ≡ Weighing.Tally
+abbrev pub Chooses : Result Said Reason → Chosen → Type 0
+Chooses (Ok Said.Kinds) by = by ≡ Chosen.Kinds
+Chooses (Ok Said.Bundles) by = by ≡ Chosen.Bundles
+Chooses (Ok Said.Tally) by = by ≡ Chosen.Tally
 Chooses other by = ⊥
 
 abbrev pub Silent : {X : Type 0} → (Result Said Reason → X → Type 0) → List (List ℕ) → Type 0
@@ -71,7 +71,7 @@ drafted lines other = lines
 abbrev pub asked : List (List ℕ) → List Line
 asked since = fold (λ lines line. drafted lines (parse line)) [] since
 
-pub record Working (rs : List (List ℕ)) (by : Weighing) (book : Book) (lines : List Line) : Type 0 where
+pub record Working (rs : List (List ℕ)) (by : Chosen) (book : Book) (lines : List Line) : Type 0 where
   pub network : Meaning
   pub behind : List (List ℕ)
   pub since : List (List ℕ)

@@ -1,6 +1,7 @@
 -- The fields of a record. Assumes nothing.
 --
---   number         the number that digits write in base ten, at most 65,535; none where they have another sign or a leading zero
+--   plain          digits and nothing else, at least one, without a leading zero
+--   number         the number that digits write in base ten, at most 65,535
 --   field_end      where the number that bytes begin with ends: at the next space, or with them
 --   field          what the first field says: a space, and then a number
 --   after_field    what stands behind the first field

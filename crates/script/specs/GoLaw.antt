@@ -9,13 +9,13 @@ use Rattle.script.specs.Listed.{ListedBy}
 use Rattle.script.specs.Records.{Said, parse}
 use Rattle.script.specs.Stages.{Phase, outcome}
 use Rattle.script.specs.Transcripts.{blank, play}
-use Rattle.script.specs.Works.{Weighing}
+use Rattle.script.specs.Works.{Chosen}
 
 -- behind these records, this is printed
 pub record Answered (rs : List (List ℕ)) (printed : List ℕ) : Type 0 where
   pub network : Meaning
   pub behind : List (List ℕ)
-  pub by : Weighing
+  pub by : Chosen
   pub since : List (List ℕ)
   pub named : First Names rs network behind
   pub chosen : First Chooses behind by since

@@ -1,4 +1,6 @@
 -- The laws of all scripts. Assumes nothing.
+--
+--   ScriptLaws    each of them
 use Rattle.script.specs.BooksLaw.{BooksLaw}
 use Rattle.script.specs.ErrorsLaw.{ErrorsLaw}
 use Rattle.script.specs.FormsLaw.{FormsLaw}

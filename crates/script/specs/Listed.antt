@@ -14,7 +14,7 @@ use Rattle.question.specs.declared.line.Line.{Line}
 use Rattle.driving.specs.Book.{Book}
 use Rattle.script.specs.Listings.{each_below}
 use Rattle.script.specs.Words.{settled_line, node_line, true_line}
-use Rattle.script.specs.Works.{Weighing}
+use Rattle.script.specs.Works.{Chosen}
 
 pub record Listed {V : Type 0} (o : Operations V) (book : Book) (lines : List Line) (printed : List ℕ) : Type 0 where
   -- what is printed behind a node is its role
@@ -32,7 +32,7 @@ pub record Listed {V : Type 0} (o : Operations V) (book : Book) (lines : List Li
   pub asked : of_question ≡ each_below (λ x. cond (answer o book.network book.colours each_node lines x) (true_line x) []) book.network.nodes
   pub unasked : lines ≡ [] → of_question ≡ []
 
-abbrev pub ListedBy : Weighing → Book → List Line → List ℕ → Type 0
-ListedBy Weighing.Kinds book lines printed = Listed kinds book lines printed
-ListedBy Weighing.Bundles book lines printed = Listed bundles book lines printed
-ListedBy Weighing.Tally book lines printed = Listed tally book lines printed
+abbrev pub ListedBy : Chosen → Book → List Line → List ℕ → Type 0
+ListedBy Chosen.Kinds book lines printed = Listed kinds book lines printed
+ListedBy Chosen.Bundles book lines printed = Listed bundles book lines printed
+ListedBy Chosen.Tally book lines printed = Listed tally book lines printed

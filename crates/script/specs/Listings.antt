@@ -1,9 +1,11 @@
 -- What GO prints of a book. Assumes nothing.
 --
 --   heads           the head of each node's role, in the coarsest table of the book
---   splits          roles of that table minus starting classes
+--   role_total      how many roles that table has
+--   split_total     roles minus starting classes
 --   each_below      what is printed for each number below n, one after another
 --   settled_lines   how many roles and splits, and each node with the head of its role
+--   is_true         the question is true of a node
 --   true_lines      the nodes that the question is true of; none where it has no lines
 --   go_lines        both
 use Rattle.std.specs.Prelude.{ℕ, zero, suc, ◌-◌, Bool, cond, List, [], ◌++◌}

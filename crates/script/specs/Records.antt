@@ -2,7 +2,12 @@
 --
 --   Said         what a record says: its numbers, or the bytes of a remark
 --   said_in      what a record of the program says
---   is_mark      the two bytes of a mark
+--   shown        the same where it is read
+--   after        with the first field, and what stands behind it
+--   after_byte   the same with a field that is at most 255
+--   ended        nothing stands behind the last field
+--   parse_..     the fields of a mark
+--   is_mark      the record begins with the two bytes of a mark
 --   parse        what the bytes of a record say, or the first no of: a known mark (12), fields right in number and form (13)
 --
 -- Fields are read one after another, and each is handed on with what stands behind it.

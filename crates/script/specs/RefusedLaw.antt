@@ -9,7 +9,7 @@
 --   belongs       what may be said at this phase
 --   StageLaw      14 is the refusal of what does not belong to the phase, and of nothing else
 --   OrderLaw      12 and 13 are the refusals of what cannot be read, at every phase
-use Rattle.std.specs.Prelude.{◌≡◌, ◌⊎◌, ◌↔◌, ℕ, ◌+◌, Bool, true, false, List, [], ◌∷◌, ◌++◌, Err, MatchResult}
+use Rattle.std.specs.Prelude.{◌≡◌, ◌⊎◌, ◌↔◌, ℕ, ◌+◌, Bool, true, false, List, [], ◌∷◌, ◌++◌, length, Err, MatchResult}
 use Rattle.script.specs.Faults.{number}
 use Rattle.script.specs.Records.{Said, parse}
 use Rattle.script.specs.Stages.{Phase, does, outcome}
@@ -21,11 +21,15 @@ pub record Refused (p : Played) (line : List ℕ) (why : Reason) : Type 0 where
   pub phase : (play p line).phase ≡ p.phase
   pub printed : (play p line).printed ≡ p.printed ++ refusal_line (p.count + 1) (number why)
   pub faults : (play p line).faults ≡ p.faults ++ fault_at p why ∷ []
+  pub count : (play p line).count ≡ p.count + 1
+  pub offset : (play p line).offset ≡ p.offset + (length line + 1)
 
 pub record Accepted (p : Played) (line : List ℕ) (next : Phase × List ℕ) : Type 0 where
   pub phase : (play p line).phase ≡ next.0
   pub printed : (play p line).printed ≡ p.printed ++ next.1
   pub faults : (play p line).faults ≡ p.faults
+  pub count : (play p line).count ≡ p.count + 1
+  pub offset : (play p line).offset ≡ p.offset + (length line + 1)
 
 pub record RefusedLaw : Type 0 where
   pub each : (p : Played) (line : List ℕ) → MatchResult (outcome p.phase line) (Accepted p line) (Refused p line)

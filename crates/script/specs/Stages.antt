@@ -1,11 +1,11 @@
 -- What a record does at a stage. Assumes nothing.
 --
---   Phase         what the script has named and told so far: nothing, a network, or a network and a measure with the book and the question
+--   Phase         a stage with what the script has named and told so far: nothing, a network, or a network and a measure with the book and the question
 --   work_phase    the phase of work that is under way
 --   phase_of      the phase of a stage of the program
 --   Outcome       the next phase and what is printed, or the refusal
 --   named         after a network record
---   weighed       after a measure record
+--   chosen        after a measure record
 --   does          what a record that says this does; a record that does not fit the phase is refused with 14
 --   outcome       the same by the bytes of a record, or the refusal of its mark or its fields
 --   next_phase    the phase after a record, refused or not
@@ -22,7 +22,7 @@ use Rattle.script.specs.Drafts.{add_answer}
 use Rattle.script.specs.Networks.{enough, matrix_named, meant, two_mode_named}
 use Rattle.script.specs.Records.{Said, parse}
 use Rattle.script.specs.Words.{remark_line}
-use Rattle.script.specs.Works.{Weighing, book_of, go_by, weighed_by}
+use Rattle.script.specs.Works.{Chosen, book_of, go_by, measure_of}
 use Rattle.script.specs.declared.faults.Reason.{Reason}
 use Rattle.script.specs.declared.stage.Stage.{Stage}
 use Rattle.script.specs.declared.work.Work as work
@@ -31,10 +31,10 @@ use Rattle.script.specs.declared.stage.Stage.TheVariants as stage
 pub data Phase : Type 0 where
   Network : Phase
   Measure : Meaning → Phase
-  Work : Weighing → Book → List Line → Phase
+  Work : Chosen → Book → List Line → Phase
 
 abbrev pub work_phase : work.Work → Phase
-work_phase w = Phase.Work (weighed_by w.session) (book_of w.session) w.question.value.lines.items
+work_phase w = Phase.Work (measure_of w.session) (book_of w.session) w.question.value.lines.items
 
 abbrev pub phase_of : Stage → Phase
 phase_of stage.Network = Phase.Network
@@ -47,16 +47,16 @@ Outcome = Result (Phase × List ℕ) Reason
 abbrev pub named : Result Meaning network.Fault → Outcome
 named made = elim made [ Ok m ↦ Ok (Phase.Measure m, []) | Err f ↦ Err (Reason.Network f) ]
 
-abbrev pub weighed : Meaning → Weighing → Outcome
-weighed m by = Ok (Phase.Work by (opened m) [], [])
+abbrev pub chosen : Meaning → Chosen → Outcome
+chosen m by = Ok (Phase.Work by (opened m) [], [])
 
 abbrev pub does : Phase → Said → Outcome
 does phase (Said.Remark text) = Ok (phase, remark_line text)
 does Phase.Network (Said.Matrix n) = named (matrix_named n enough)
 does Phase.Network (Said.TwoMode a b) = named (two_mode_named a b enough)
-does (Phase.Measure m) Said.Kinds = weighed m Weighing.Kinds
-does (Phase.Measure m) Said.Bundles = weighed m Weighing.Bundles
-does (Phase.Measure m) Said.Tally = weighed m Weighing.Tally
+does (Phase.Measure m) Said.Kinds = chosen m Chosen.Kinds
+does (Phase.Measure m) Said.Bundles = chosen m Chosen.Bundles
+does (Phase.Measure m) Said.Tally = chosen m Chosen.Tally
 does (Phase.Work by book lines) (Said.Put i j b) = elim (put_answer book.network i j b) [ Ok _ ↦ Ok (Phase.Work by (after_put book i j b) lines, []) | Err f ↦ Err (Reason.Network f) ]
 does (Phase.Work by book lines) (Said.Colour i c) = elim (colour_answer book.network.nodes i) [ Ok _ ↦ Ok (Phase.Work by (after_colour book i c) lines, []) | Err f ↦ Err (Reason.Session f) ]
 does (Phase.Work by book lines) (Said.Question line) = elim (add_answer lines line) [ Ok _ ↦ Ok (Phase.Work by book (lines ++ line ∷ []), []) | Err f ↦ Err (Reason.Question f) ]

@@ -1,18 +1,18 @@
 -- What a script prints, and which of its records are refused. Assumes nothing.
 --
---   newline       a byte is a line feed
---   unless_empty  parts, but for an empty last one
---   records       the lines of a script; the last one may lack its line feed
---   Played        a script as far as it is played
---   blank         before its first record
---   went          after a record with this outcome
---   play          after a record more
---   fault_at      a refusal of the next record
---   limit         how many bytes a script may have
---   too_long      the refusal of a script of more
---   played        after the last record
---   transcript    what a script prints
---   refusals      its refusals, in order
+--   newline              a byte is a line feed
+--   without_empty_last   parts, but for an empty last one
+--   records              the lines of a script; the last one may lack its line feed
+--   Played               a script as far as it is played
+--   blank                before its first record
+--   after_outcome        after a record with this outcome
+--   play                 after a record more
+--   fault_at             a refusal of the next record
+--   limit                how many bytes a script may have
+--   too_long             the refusal of a script of more
+--   played               after the last record
+--   transcript           what a script prints
+--   refusals             its refusals, in order
 use Rattle.std.specs.Prelude.{ℕ, ◌+◌, Bool, cond, ◌==◌, nat_le, List, [], ◌∷◌, ◌++◌, length, fold, Ok, Err}
 use Rattle.std.specs.List.{slice_split}
 use Rattle.script.specs.Faults.{number}
@@ -24,13 +24,13 @@ use Rattle.script.specs.declared.faults.Reason.{Reason}
 abbrev pub newline : ℕ → Bool
 newline b = b == 10
 
-abbrev pub unless_empty : List (List ℕ) → List (List ℕ)
-unless_empty [] = []
-unless_empty (last ∷ []) = cond (length last == 0) [] (last ∷ [])
-unless_empty (part ∷ next ∷ more) = part ∷ unless_empty (next ∷ more)
+abbrev pub without_empty_last : List (List ℕ) → List (List ℕ)
+without_empty_last [] = []
+without_empty_last (last ∷ []) = cond (length last == 0) [] (last ∷ [])
+without_empty_last (part ∷ next ∷ more) = part ∷ without_empty_last (next ∷ more)
 
 abbrev pub records : List ℕ → List (List ℕ)
-records script = unless_empty (slice_split newline script)
+records script = without_empty_last (slice_split newline script)
 
 pub record Played : Type 0 where
   pub phase : Phase
@@ -48,8 +48,8 @@ abbrev pub fault_at : Played → Reason → Fault
 fault_at p why = record { reason = why; «record» = p.count + 1; offset = p.offset }
 
 -- refused, the phase is as it was, and one line is printed
-abbrev pub went : Played → List ℕ → Outcome → Played
-went p line outcome =
+abbrev pub after_outcome : Played → List ℕ → Outcome → Played
+after_outcome p line outcome =
     elim outcome [
       | Ok next ↦
           record {
@@ -70,7 +70,7 @@ went p line outcome =
     ]
 
 abbrev pub play : Played → List ℕ → Played
-play p line = went p line (outcome p.phase line)
+play p line = after_outcome p line (outcome p.phase line)
 
 abbrev pub limit : ℕ
 limit = 32768

@@ -19,7 +19,7 @@ pub(crate) enum AnyNetwork {
 fn memory(heap: Global) -> Result<Vec<u8>, AllocError>
     ensures { IfOk result (λ bytes. vec_len bytes ≡ enough) }
 {
-    vec![in heap; 0; 16384]
+    vec![in heap; 0; 128 * 128]
 }
 
 impl AnyNetwork {

@@ -61,6 +61,22 @@ pub struct Fault {
     pub offset: usize,
 }
 
+impl Fault {
+    /// That of its reason.
+    pub fn number(self) -> u8
+        ensures { result ≡ number self.reason }
+    {
+        self.reason.number()
+    }
+
+    /// That of its reason.
+    pub fn layer(self) -> Layer
+        ensures { result ≡ layer self.reason }
+    {
+        self.reason.layer()
+    }
+}
+
 impl fmt::Display for Reason {
     ghost output = { λ r. Some (said r) };
 

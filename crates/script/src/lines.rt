@@ -10,7 +10,7 @@ pub(crate) fn print_refusal(fault: Fault, out: &mut Vec<u8>) -> io::Result<()>
     ensures { let line = refusal_line fault.«record» (number fault.reason) in
         OnOk result (out.new.items ≡ out.old.items ++ line) }
 {
-    writeln!(out, "ER {} {}", fault.record, fault.reason.number())
+    writeln!(out, "ER {} {}", fault.record, fault.number())
 }
 
 // How many roles there are, and how many splits.

@@ -62,8 +62,8 @@ pub(crate) fn print_answer<N: Editable, M: Measure>(
     if question.is_empty() {
         return Ok(());
     }
-    // No fault: 32 lines at 128 nodes, and each line passes.
-    let mut area = [0; 4096];
+    // No fault: room for 32 lines at 128 nodes, and each line passes.
+    let mut area = [0; 32 * 128];
     let start = settled.ask(question, &mut area).unwrap();
     for x in 0..settled.network().nodes() {
         let role = settled.role_of(x).unwrap();

@@ -8,11 +8,11 @@ pub enum Record<'a> {
     Matrix(usize),
     /// `NT a b`: a two-mode network of a nodes on side A and b on side B.
     TwoMode(usize, usize),
-    /// `MK`: the measure.
+    /// `MK`: the measure kinds.
     Kinds,
-    /// `MB`
+    /// `MB`: the measure bundles.
     Bundles,
-    /// `MT`
+    /// `MT`: the measure tally.
     Tally,
     /// `PU i j b`: the tie byte from i to j.
     Put(usize, usize, u8),

@@ -1,7 +1,9 @@
 // A whole script, record by record.
-ghost use Rattle.std.specs.Prelude.{◌≡◌, ◌++◌, ◌+◌, ◌<◌, ◌≤◌, length, IfOk, OnOk, OnErr};
+ghost use Rattle.std.specs.Prelude.{◌≡◌, ◌++◌, ◌+◌, ◌<◌, ◌≤◌, length, IfOk, OnOk, OnErr, [], ◌∷◌};
 ghost use Rattle.std.specs.List.{after_first, before_first};
-ghost use Rattle.script.specs.Transcripts.{limit, newline, play, refusals, transcript};
+ghost use Rattle.script.specs.Faults.{number};
+ghost use Rattle.script.specs.Transcripts.{limit, newline, play, refusals, too_long, transcript};
+ghost use Rattle.script.specs.Words.{refusal_line};
 ghost use Rattle.script.specs.Laws.{ScriptLaws};
 ghost use Rattle.script.specs.Stages.{answer_in, next_phase, outcome, phase_of, printed_in};
 
@@ -10,11 +12,11 @@ use super::faults::{Fault, Reason};
 use super::lines::print_refusal;
 use super::reading::read;
 use super::stage::Stage;
-use std::alloc::Global;
+use std::alloc::{AllocError, Global};
 use std::io;
 
-// A script of more bytes is refused as a whole.
-const LIMIT: usize = 32_768;
+/// How many bytes a script may have. One of more is refused as a whole.
+pub const LIMIT: usize = 32_768;
 
 // The first line, and what stands behind its line feed.
 fn cut(rest: &[u8]) -> (&[u8], &[u8])
@@ -29,7 +31,7 @@ fn cut(rest: &[u8]) -> (&[u8], &[u8])
 }
 
 // What the bytes of a record do: the next stage, and the refusal where there is one.
-fn step(
+fn act(
     stage: Stage,
     line: &[u8],
     heap: Global,
@@ -74,7 +76,7 @@ impl Player {
             offset,
             mut faults,
         } = self;
-        let (stage, answer) = step(stage, line, heap, out)?;
+        let (stage, answer) = act(stage, line, heap, out)?;
         let count = count + 1;
         if let Err(reason) = answer {
             let fault = Fault {
@@ -94,27 +96,37 @@ impl Player {
     }
 }
 
+// Refuses a script as a whole.
+fn refuse_all(heap: Global, out: &mut Vec<u8>) -> io::Result<Vec<Fault>>
+    ensures printed { let line = refusal_line too_long.«record» (number too_long.reason) in
+        OnOk result (out.new.items ≡ out.old.items ++ line) }
+    ensures refusals { IfOk result (λ faults. faults.items ≡ too_long ∷ []) }
+{
+    let fault = Fault {
+        reason: Reason::Length,
+        record: 0,
+        offset: 0,
+    };
+    print_refusal(fault, out)?;
+    let mut faults = Vec::new(heap);
+    faults.push(fault)?;
+    Ok(faults)
+}
+
 // Plays each record, or refuses the whole script.
 fn play_all(script: &[u8], heap: Global, out: &mut Vec<u8>) -> io::Result<Vec<Fault>>
     ensures printed { OnOk result (out.new.items ≡ out.old.items ++ transcript script.now) }
     ensures refusals { IfOk result (λ faults. faults.items ≡ refusals script.now) }
 {
+    if script.len() > LIMIT {
+        return refuse_all(heap, out);
+    }
     let mut player = Player {
         stage: Stage::Network,
         count: 0,
         offset: 0,
         faults: Vec::new(heap),
     };
-    if script.len() > LIMIT {
-        let fault = Fault {
-            reason: Reason::Length,
-            record: 0,
-            offset: 0,
-        };
-        print_refusal(fault, out)?;
-        player.faults.push(fault)?;
-        return Ok(player.faults);
-    }
     let mut rest = script;
     while !rest.is_empty() {
         let (line, after) = cut(rest);
@@ -124,17 +136,18 @@ fn play_all(script: &[u8], heap: Global, out: &mut Vec<u8>) -> io::Result<Vec<Fa
     Ok(player.faults)
 }
 
-/// Runs a script: what it prints is appended to `out`, and its refusals are given in order. An error
-/// is want of memory, and `out` then holds what it held.
+/// Runs a script: what it prints is appended to `out`, and its refusals are given in order. Where
+/// memory is short, `out` holds what it held.
 #[tactic(auto, using(crate::proofs::Laws::script_laws))]
-pub fn run(script: &[u8], heap: Global, out: &mut Vec<u8>) -> io::Result<Vec<Fault>>
+pub fn run(script: &[u8], heap: Global, out: &mut Vec<u8>) -> Result<Vec<Fault>, AllocError>
     ensures printed { OnOk result (out.new.items ≡ out.old.items ++ transcript script.now) }
     ensures refusals { IfOk result (λ faults. faults.items ≡ refusals script.now) }
     ensures failed { OnErr result (out.new.items ≡ out.old.items) }
     ensures laws { ScriptLaws }
 {
     let mut printed = Vec::new(heap);
-    let faults = play_all(script, heap, &mut printed)?;
+    // Nothing else fails in writing to a `Vec`.
+    let faults = play_all(script, heap, &mut printed).map_err(|_| AllocError)?;
     out.extend_from_slice(&printed)?;
     Ok(faults)
 }

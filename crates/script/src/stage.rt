@@ -22,8 +22,7 @@ pub(crate) enum Stage {
 impl Stage {
     ghost use Rattle.script.specs.Stages.{answer_in, does, next_phase, phase_of, printed_in};
 
-    // The next stage, and the refusal where there is one; nothing is printed of it. The stage and
-    // the record decide together.
+    // The next stage, and the refusal where there is one; nothing is printed of a refusal.
     pub(crate) fn play(
         self,
         what: Record<'_>,
@@ -37,32 +36,31 @@ impl Stage {
         ensures printed { let printed = printed_in (does (phase_of self) (said_in what.entry)) in
             OnOk result (out.new.items ≡ out.old.items ++ printed) }
     {
-        let accepted = Ok(());
         match (self, what) {
             (stage, Record::Remark(text)) => {
                 print_remark(text, out)?;
-                Ok((stage, accepted))
+                Ok((stage, Ok(())))
             }
             (Stage::Network, Record::Matrix(n)) => {
                 match AnyNetwork::matrix(n, heap)? {
-                    Ok(network) => Ok((Stage::Measure(network), accepted)),
+                    Ok(network) => Ok((Stage::Measure(network), Ok(()))),
                     Err(fault) => Ok((Stage::Network, Err(Reason::Network(fault)))),
                 }
             }
             (Stage::Network, Record::TwoMode(a, b)) => {
                 match AnyNetwork::two_mode(a, b, heap)? {
-                    Ok(network) => Ok((Stage::Measure(network), accepted)),
+                    Ok(network) => Ok((Stage::Measure(network), Ok(()))),
                     Err(fault) => Ok((Stage::Network, Err(Reason::Network(fault)))),
                 }
             }
             (Stage::Measure(network), Record::Kinds) => {
-                Ok((Stage::Work(Work::by_kinds(network, heap)?), accepted))
+                Ok((Stage::Work(Work::by_kinds(network, heap)?), Ok(())))
             }
             (Stage::Measure(network), Record::Bundles) => {
-                Ok((Stage::Work(Work::by_bundles(network, heap)?), accepted))
+                Ok((Stage::Work(Work::by_bundles(network, heap)?), Ok(())))
             }
             (Stage::Measure(network), Record::Tally) => {
-                Ok((Stage::Work(Work::by_tally(network, heap)?), accepted))
+                Ok((Stage::Work(Work::by_tally(network, heap)?), Ok(())))
             }
             (Stage::Work(mut work), Record::Put(i, j, b)) => {
                 let answer = work.session.put(i, j, b).map_err(Reason::Network);
@@ -76,7 +74,7 @@ impl Stage {
                 let answer = work.question.add(line).map_err(Reason::Question);
                 Ok((Stage::Work(work), answer))
             }
-            (Stage::Work(work), Record::Go) => { Ok((Stage::Work(work.go(heap, out)?), accepted)) }
+            (Stage::Work(work), Record::Go) => { Ok((Stage::Work(work.go(heap, out)?), Ok(()))) }
             (stage, _) => Ok((stage, Err(Reason::Stage))),
         }
     }

@@ -7,7 +7,7 @@ ghost use Rattle.session.specs.Sessions.{colour_answer};
 ghost use Rattle.driving.specs.Book.{after_colour, after_put, book_in, opened};
 ghost use Rattle.script.specs.Listings.{go_lines};
 ghost use Rattle.script.specs.Networks.{meant};
-ghost use Rattle.script.specs.Works.{Weighing, book_of, go_by, weighed_by};
+ghost use Rattle.script.specs.Works.{Chosen, book_of, go_by, measure_of};
 
 use super::any_network::AnyNetwork;
 use super::draft::Draft;
@@ -45,52 +45,56 @@ fn go<N: Editable + Drop, M: Measure + Drop>(
 
 // A session under one of the measures, in a box, so that it moves cheaply.
 #[derive(Drop)]
-pub(crate) enum Weighed {
+pub(crate) enum AnySession {
     ByKinds(Box<Open<AnyNetwork, Kinds>>),
     ByBundles(Box<Open<AnyNetwork, Bundles>>),
     ByTally(Box<Open<AnyNetwork, Tally>>),
 }
 
-impl Weighed {
+impl AnySession {
     pub(crate) fn put(&mut self, i: usize, j: usize, b: u8) -> Result<(), network::faults::Fault>
         ensures answer { result ≡ put_answer (book_of self.old).network i j b }
         ensures book { book_of self.new ≡ after_put (book_of self.old) i j b }
-        ensures measure { weighed_by self.new ≡ weighed_by self.old }
+        ensures measure { measure_of self.new ≡ measure_of self.old }
     {
         match self {
-            Weighed::ByKinds(session) => session.put(i, j, b),
-            Weighed::ByBundles(session) => session.put(i, j, b),
-            Weighed::ByTally(session) => session.put(i, j, b),
+            AnySession::ByKinds(session) => session.put(i, j, b),
+            AnySession::ByBundles(session) => session.put(i, j, b),
+            AnySession::ByTally(session) => session.put(i, j, b),
         }
     }
 
     pub(crate) fn colour(&mut self, i: usize, c: u8) -> Result<(), session::faults::Fault>
         ensures answer { result ≡ colour_answer (book_of self.old).network.nodes i }
         ensures book { book_of self.new ≡ after_colour (book_of self.old) i c }
-        ensures measure { weighed_by self.new ≡ weighed_by self.old }
+        ensures measure { measure_of self.new ≡ measure_of self.old }
     {
         match self {
-            Weighed::ByKinds(session) => session.colour(i, c),
-            Weighed::ByBundles(session) => session.colour(i, c),
-            Weighed::ByTally(session) => session.colour(i, c),
+            AnySession::ByKinds(session) => session.colour(i, c),
+            AnySession::ByBundles(session) => session.colour(i, c),
+            AnySession::ByTally(session) => session.colour(i, c),
         }
     }
 
     // Settles, lists and asks, and opens again.
-    fn go(self, question: &[Line], heap: Global, out: &mut Vec<u8>) -> io::Result<Weighed>
+    fn go(self, question: &[Line], heap: Global, out: &mut Vec<u8>) -> io::Result<AnySession>
         requires passes { lines_check 0 question.now ≡ Ok tt }
         requires few { length question.now ≤ 32 }
         ensures book { IfOk result (λ next. book_of next ≡ book_of self) }
-        ensures measure { IfOk result (λ next. weighed_by next ≡ weighed_by self) }
-        ensures printed { let lines = go_by (weighed_by self) (book_of self) question.now in
+        ensures measure { IfOk result (λ next. measure_of next ≡ measure_of self) }
+        ensures printed { let lines = go_by (measure_of self) (book_of self) question.now in
             OnOk result (out.new.items ≡ out.old.items ++ lines) }
     {
         match self {
-            Weighed::ByKinds(session) => Ok(Weighed::ByKinds(go(session, question, heap, out)?)),
-            Weighed::ByBundles(session) => Ok(Weighed::ByBundles(go(
+            AnySession::ByKinds(session) => Ok(AnySession::ByKinds(go(
                 session, question, heap, out,
             )?)),
-            Weighed::ByTally(session) => Ok(Weighed::ByTally(go(session, question, heap, out)?)),
+            AnySession::ByBundles(session) => Ok(AnySession::ByBundles(go(
+                session, question, heap, out,
+            )?)),
+            AnySession::ByTally(session) => Ok(AnySession::ByTally(go(
+                session, question, heap, out,
+            )?)),
         }
     }
 }
@@ -98,7 +102,7 @@ impl Weighed {
 // What is worked on: the session, and the question so far.
 #[derive(Drop)]
 pub(crate) struct Work {
-    pub(crate) session: Weighed,
+    pub(crate) session: AnySession,
     pub(crate) question: Box<Draft>,
 }
 
@@ -106,9 +110,9 @@ impl Work {
     ghost use Rattle.script.specs.Stages.{Phase, work_phase};
 
     // With no question yet.
-    fn begun(session: Weighed, heap: Global) -> Result<Work, AllocError>
+    fn begun(session: AnySession, heap: Global) -> Result<Work, AllocError>
         ensures { IfOk result (λ work.
-            work_phase work ≡ Phase.Work (weighed_by session) (book_of session) []) }
+            work_phase work ≡ Phase.Work (measure_of session) (book_of session) []) }
     {
         let question = Box::new(heap, Draft::new())?;
         Ok(Work { session, question })
@@ -116,35 +120,35 @@ impl Work {
 
     pub(crate) fn by_kinds(network: AnyNetwork, heap: Global) -> Result<Work, AllocError>
         ensures { let book = opened (meant network) in
-            IfOk result (λ work. work_phase work ≡ Phase.Work Weighing.Kinds book []) }
+            IfOk result (λ work. work_phase work ≡ Phase.Work Chosen.Kinds book []) }
     {
         let session = Box::new(heap, Open::new(network, Kinds))?;
-        Work::begun(Weighed::ByKinds(session), heap)
+        Work::begun(AnySession::ByKinds(session), heap)
     }
 
     pub(crate) fn by_bundles(network: AnyNetwork, heap: Global) -> Result<Work, AllocError>
         ensures { let book = opened (meant network) in
-            IfOk result (λ work. work_phase work ≡ Phase.Work Weighing.Bundles book []) }
+            IfOk result (λ work. work_phase work ≡ Phase.Work Chosen.Bundles book []) }
     {
         let session = Box::new(heap, Open::new(network, Bundles))?;
-        Work::begun(Weighed::ByBundles(session), heap)
+        Work::begun(AnySession::ByBundles(session), heap)
     }
 
     pub(crate) fn by_tally(network: AnyNetwork, heap: Global) -> Result<Work, AllocError>
         ensures { let book = opened (meant network) in
-            IfOk result (λ work. work_phase work ≡ Phase.Work Weighing.Tally book []) }
+            IfOk result (λ work. work_phase work ≡ Phase.Work Chosen.Tally book []) }
     {
         let session = Box::new(heap, Open::new(network, Tally))?;
-        Work::begun(Weighed::ByTally(session), heap)
+        Work::begun(AnySession::ByTally(session), heap)
     }
 
     // Settles, lists and asks, and opens again, with no question yet.
     pub(crate) fn go(self, heap: Global, out: &mut Vec<u8>) -> io::Result<Work>
-        ensures work { let by = weighed_by self.session in
+        ensures work { let by = measure_of self.session in
             let book = book_of self.session in
             IfOk result (λ next. work_phase next ≡ Phase.Work by book []) }
         ensures printed { let lines = self.question.value.lines.items in
-            let printed = go_by (weighed_by self.session) (book_of self.session) lines in
+            let printed = go_by (measure_of self.session) (book_of self.session) lines in
             OnOk result (out.new.items ≡ out.old.items ++ printed) }
     {
         let Work {

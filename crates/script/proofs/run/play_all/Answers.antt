@@ -24,7 +24,7 @@ loop-rest-preserved c =
     )
 
 -- what is played at the end, over what was printed before
-at_end : (c : goal.Joined-player-7) → played_in c.loop-rest.player c.loop-rest.out.items ≡ fold play (record blank { printed = c.args.out.now.items }) (records c.args.script.now)
+at_end : (c : goal.Joined-player) → played_in c.loop-rest.player c.loop-rest.out.items ≡ fold play (record blank { printed = c.args.out.now.items }) (records c.args.script.now)
 at_end c =
     let p : Played = played_in c.loop-rest.player c.loop-rest.out.items in
     let none = none_left c.loop-rest.rest.now c.is_empty.result c.is_empty.ensures c.loop-rest-test.false in

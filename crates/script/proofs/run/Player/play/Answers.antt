@@ -2,7 +2,7 @@ use Rattle.std.proofs.Common.{◌+◌, ◌++◌, ◌∙◌, ap, sym}
 use Rattle.script.specs.Faults.{number}
 use Rattle.script.specs.Stages.{outcome, phase_of}
 use Rattle.script.specs.Words.{refusal_line}
-use Rattle.script.proofs.Playing.{went_accepted, went_refused}
+use Rattle.script.proofs.Playing.{outcome_accepted, outcome_refused}
 use Rattle.script.specs.Players.{played_in}
 use Rattle.script.proofs.run.Player.play.Goals as goal
 use Rattle.script.proofs.run.Player.play.Goals.{in-Err+in_ok-print_refusal+in_ok-push, in_default}
@@ -17,14 +17,14 @@ returns c =
     let faults = c.match-answer.faults.items in
     elim c.match-answer.branch [
       | in-Err+in_ok-print_refusal+in_ok-push w ↦
-          went_refused p line did w.in-Err.reason phase printed faults
+          outcome_refused p line did w.in-Err.reason phase printed faults
           (sym c.in_ok-stage.ensures.answer ∙ w.in-Err.is)
           c.in_ok-stage.ensures.stage
           (ap (λ v. v.items) w.out-is ∙ w.in_ok-print_refusal.ensures
           ∙ ap (λ v. v ++ refusal_line (p.count + 1) (number w.in-Err.reason)) c.in_ok-stage.ensures.printed)
           (ap (λ v. v.items) w.faults-is ∙ w.in_ok-push.ensures.items)
       | in_default w ↦
-          went_accepted p line did phase printed faults
+          outcome_accepted p line did phase printed faults
           (sym c.in_ok-stage.ensures.answer ∙ w.in_default.is)
           c.in_ok-stage.ensures.stage
           (ap (λ v. v.items) w.out-is ∙ c.in_ok-stage.ensures.printed)
