@@ -5,6 +5,7 @@ pub mod Printing
 pub mod Asking
 pub mod FieldLaw
 pub mod RecordLaw
+pub mod MarkLaw
 pub mod Playing
 pub mod Sequences
 pub mod RefusedLaw

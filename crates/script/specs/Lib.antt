@@ -10,6 +10,7 @@ pub mod Works
 pub mod Stages
 pub mod Transcripts
 pub mod RecordLaw
+pub mod MarkLaw
 pub mod Players
 pub mod RefusedLaw
 pub mod FormsLaw
