@@ -18,4 +18,6 @@ pub mod BooksLaw
 pub mod GoLaw
 pub mod Laws
 pub mod PlacesLaw
+pub mod Picking
 pub mod ErrorsLaw
+pub mod RemarksLaw

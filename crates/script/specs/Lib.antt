@@ -22,3 +22,4 @@ pub mod GoLaw
 pub mod Laws
 pub mod PlacesLaw
 pub mod ErrorsLaw
+pub mod RemarksLaw
