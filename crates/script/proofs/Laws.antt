@@ -6,6 +6,7 @@ use Rattle.script.proofs.FormsLaw.{forms_law}
 use Rattle.script.proofs.GoLaw.{go_law}
 use Rattle.script.proofs.PlacesLaw.{places_law}
 use Rattle.script.proofs.RefusedLaw.{order_law, refused_law, stage_law}
+use Rattle.script.proofs.RemarksLaw.{remarks_law}
 use Rattle.script.proofs.Sample.{sample_prints}
 use Rattle.script.proofs.SequenceLaw.{sequence_law}
 
@@ -17,6 +18,7 @@ script_laws =
       order = order_law;
       places = places_law;
       errors = errors_law;
+      remarks = remarks_law;
       sequence = sequence_law;
       books = books_law;
       answered = go_law;

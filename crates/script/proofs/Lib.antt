@@ -5,6 +5,7 @@ pub mod Printing
 pub mod Asking
 pub mod FieldLaw
 pub mod RecordLaw
+pub mod MarkLaw
 pub mod Playing
 pub mod Sequences
 pub mod RefusedLaw
@@ -17,4 +18,6 @@ pub mod BooksLaw
 pub mod GoLaw
 pub mod Laws
 pub mod PlacesLaw
+pub mod Picking
 pub mod ErrorsLaw
+pub mod RemarksLaw

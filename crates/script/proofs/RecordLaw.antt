@@ -22,7 +22,7 @@ use Rattle.script.specs.RecordLaw.{spaced, line_of, claim_written, written, Clai
 use Rattle.script.specs.declared.faults.Reason.{Reason}
 use Rattle.script.proofs.FieldLaw.{field_law}
 
-abbrev Answer : Type 0
+abbrev pub Answer : Type 0
 Answer = Result Said Reason
 
 abbrev byte_of : Option ℕ → Option ℕ
@@ -37,7 +37,7 @@ byte_told (Some m) n e = by_test (ltb m 256) refl e
 byte_told None n e = absurd (cc)
 
 module _ (next : ℕ → List ℕ → Answer) (bytes : List ℕ) where
-  abbrev go_on : Option ℕ → Answer
+  abbrev pub go_on : Option ℕ → Answer
   go_on told = elim told [ Some n ↦ next n (after_field bytes) | None ↦ Err Reason.Fields ]
 
   go_on_says : (told : Option ℕ) (said : Said) → go_on told ≡ Ok said → (n : ℕ) × (told ≡ Some n) × (next n (after_field bytes) ≡ Ok said)
@@ -79,13 +79,13 @@ ended_says what said bytes e = by_test (eqb (length bytes) 0) refl e
     by_test true is same = (nil_from_length bytes (grind (arith, nat_tests)), cc)
     by_test false is same = absurd (cc)
 
-data Form : Type 0 where
+pub data Form : Type 0 where
   End : Said → Form
   Number : (ℕ → Form) → Form
   Byte : (ℕ → Form) → Form
   All : (List ℕ → Said) → Form
 
-abbrev read : Form → List ℕ → Answer
+abbrev pub read : Form → List ℕ → Answer
 read (End what) bytes = ended what bytes
 read (Number next) bytes = after bytes (λ n. read (next n))
 read (Byte next) bytes = after_byte bytes (λ n. read (next n))
@@ -128,13 +128,13 @@ sound_says text (Byte next) sound bytes said e =
     rw reads.written (sound_says (λ rest. text (32 ∷ (decimal n ++ rest))) (next n) (sound n small) (after_field bytes) said more)
 sound_says text (All what) sound bytes said e = let is : what bytes ≡ said = cc in rw is at (sound bytes)
 
-record Mark : Type 0 where
+pub record Mark : Type 0 where
   pub first : ℕ
   pub second : ℕ
   pub form : Form
   pub sound : Sound (λ rest. first ∷ second ∷ rest) form
 
-abbrev look : List Mark → ℕ → ℕ → List ℕ → Answer
+abbrev pub look : List Mark → ℕ → ℕ → List ℕ → Answer
 look [] a b bytes = Err Reason.Mark
 look (mark ∷ marks) a b bytes = cond (eqb a mark.first && eqb b mark.second) (read mark.form bytes) (look marks a b bytes)
 
@@ -176,7 +176,7 @@ and_lines = Number (λ k. Number (λ l. End (claim_line (And k l))))
 abbrev tied : Form
 tied = Number (λ k. Byte (λ t. End (claim_line (Tied k t))))
 
-abbrev marks : List Mark
+abbrev pub marks : List Mark
 marks =
     record { first = 78; second = 77; form = matrix; sound = λ n l. (refl, l) }
     ∷ record { first = 78; second = 84; form = two_mode; sound = λ a la b lb. (refl, (la, lb)) }
@@ -193,7 +193,7 @@ marks =
     ∷ record { first = 82; second = 77; form = All Said.Remark; sound = λ text. (refl, tt) }
     ∷ []
 
-parse_marked : (a b : ℕ) (bytes : List ℕ) → parse (a ∷ b ∷ bytes) ≡ look marks a b bytes
+pub parse_marked : (a b : ℕ) (bytes : List ℕ) → parse (a ∷ b ∷ bytes) ≡ look marks a b bytes
 parse_marked a b bytes = let long : ltb (length (a ∷ b ∷ bytes)) 2 ≡ false = grind (arith, nat_tests) in rw long
 
 says : (text : List ℕ) (said : Said) → parse text ≡ Ok said → Written text said

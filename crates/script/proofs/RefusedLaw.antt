@@ -211,7 +211,7 @@ parse_unread text =
     (either (is_mark (codes "RM") text) (Ok (Said.Remark bytes)) (Err Reason.Mark) tt (inl refl))))))))))))))
 
 module _ (phase : Phase) where
-  abbrev acted : Told → Outcome
+  abbrev pub acted : Told → Outcome
   acted told = elim told [ Ok said ↦ does phase said | Err why ↦ Err why ]
 
   refused_formally : (here : Bool) (did : Outcome) (why : Reason) → Decided here did → did ≡ Err why → Formal why → ⊥

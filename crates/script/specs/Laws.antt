@@ -7,6 +7,7 @@ use Rattle.script.specs.FormsLaw.{FormsLaw}
 use Rattle.script.specs.GoLaw.{GoLaw}
 use Rattle.script.specs.PlacesLaw.{PlacesLaw}
 use Rattle.script.specs.RefusedLaw.{OrderLaw, RefusedLaw, StageLaw}
+use Rattle.script.specs.RemarksLaw.{RemarksLaw}
 use Rattle.script.specs.Sample.{SamplePrints}
 use Rattle.script.specs.SequenceLaw.{SequenceLaw}
 
@@ -21,6 +22,8 @@ pub record ScriptLaws : Type 0 where
   pub places : PlacesLaw
   -- the error lines are the refusals, and no other line is one
   pub errors : ErrorsLaw
+  -- every remark is copied out whole, in order, and no other line begins so
+  pub remarks : RemarksLaw
   -- a script that is cut between two records is two scripts in sequence
   pub sequence : SequenceLaw
   -- at each moment network and measure are those that were named, and ties, colours and question those of the records since

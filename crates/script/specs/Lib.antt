@@ -10,6 +10,7 @@ pub mod Works
 pub mod Stages
 pub mod Transcripts
 pub mod RecordLaw
+pub mod MarkLaw
 pub mod Players
 pub mod RefusedLaw
 pub mod FormsLaw
@@ -21,3 +22,4 @@ pub mod GoLaw
 pub mod Laws
 pub mod PlacesLaw
 pub mod ErrorsLaw
+pub mod RemarksLaw

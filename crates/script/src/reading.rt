@@ -4,6 +4,7 @@ ghost use Rattle.script.specs.Records.{ended, parse, said_in, shown};
 ghost use Rattle.script.specs.Records.{parse_and, parse_colour, parse_matrix, parse_not};
 ghost use Rattle.script.specs.Records.{parse_of_colour, parse_put, parse_tied, parse_two_mode};
 ghost use Rattle.script.specs.FieldLaw.{FieldLaw};
+ghost use Rattle.script.specs.MarkLaw.{MarkLaw};
 ghost use Rattle.script.specs.RecordLaw.{RecordLaw};
 
 use super::faults::Reason;
@@ -128,11 +129,12 @@ fn read_tied(rest: &[u8]) -> Result<Record<'_>, Reason>
 }
 
 /// What a record says, or the first no of: a known mark (12), fields right in number and form (13).
-#[tactic(auto, using(crate::proofs::FieldLaw::field_law, crate::proofs::RecordLaw::record_law))]
+#[tactic(auto, using(crate::proofs::FieldLaw::field_law, crate::proofs::RecordLaw::record_law, crate::proofs::MarkLaw::mark_law))]
 pub fn read(line: &[u8]) -> Result<Record<'_>, Reason>
     ensures said { shown result ≡ parse line.now }
     ensures fields { FieldLaw }
     ensures records { RecordLaw }
+    ensures marks { MarkLaw }
 {
     let [first, second, rest @ ..] = line else {
         return Err(Reason::Mark);
