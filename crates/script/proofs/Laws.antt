@@ -9,6 +9,7 @@ use Rattle.script.proofs.RefusedLaw.{order_law, refused_law, stage_law}
 use Rattle.script.proofs.RemarksLaw.{remarks_law}
 use Rattle.script.proofs.Sample.{sample_prints}
 use Rattle.script.proofs.SequenceLaw.{sequence_law}
+use Rattle.script.proofs.VerdictLaw.{verdict_law}
 
 pub script_laws : ScriptLaws
 script_laws =
@@ -21,6 +22,7 @@ script_laws =
       remarks = remarks_law;
       sequence = sequence_law;
       books = books_law;
+      verdicts = verdict_law;
       answered = go_law;
       forms = forms_law;
       sample = sample_prints;

@@ -21,3 +21,4 @@ pub mod PlacesLaw
 pub mod Picking
 pub mod ErrorsLaw
 pub mod RemarksLaw
+pub mod VerdictLaw

@@ -4,7 +4,7 @@
 --   Begins      a record begins with one of these marks
 --   Read        the record is read by a form, so it is refused for its fields or not at all
 --   Looked      with one of these marks it is read, and with none of them it is refused for its mark
-use Rattle.std.proofs.Common.{◌≡◌, ◌⊎◌, ◌↔◌, ℕ, ◌<◌, Bool, true, false, cond, ◌&&◌, eqb, List, [], ◌∷◌, length, map, take, Option, Some, None, Ok, Err, sym, refl, ap, subst, inl, inr, ⊎_elim, arith}
+use Rattle.std.proofs.Common.{◌≡◌, ◌⊎◌, ◌↔◌, ℕ, ◌<◌, Bool, true, false, cond, ◌&&◌, eqb, List, [], ◌∷◌, length, map, take, Option, Some, None, Ok, Err, sym, refl, ap, ◌∙◌, subst, inl, inr, ⊎_elim, arith}
 use Rattle.std.specs.List.{Contains}
 use Rattle.std.specs.Result.{MatchResult}
 use Rattle.std.proofs.lemmas.Bool.Decides.{nat_tests}
@@ -98,3 +98,15 @@ wrong text =
 
 pub mark_law : MarkLaw
 mark_law = record { unknown = unknown; wrong = wrong }
+
+formal : (told : Answer) (why : Reason) → Read told → told ≡ Err why → why ≡ Reason.Fields
+formal (Ok said) why reads e = absurd (cc)
+formal (Err other) why reads e = let same : other ≡ why = cc in sym same ∙ reads
+
+-- a record that cannot be read is refused for its mark or for its fields
+pub unread_for : (text : List ℕ) (why : Reason) → parse text ≡ Err why → (why ≡ Reason.Mark) ⊎ (why ≡ Reason.Fields)
+unread_for text why e =
+    ⊎_elim
+    (λ (begins, reads). inr (formal (parse text) why reads e))
+    (λ (none, told). inl (let same : ◌≡◌ {A = Answer} (Err why) (Err Reason.Mark) = sym e ∙ told in cc))
+    (parsed text)

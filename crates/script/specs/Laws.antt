@@ -10,6 +10,7 @@ use Rattle.script.specs.RefusedLaw.{OrderLaw, RefusedLaw, StageLaw}
 use Rattle.script.specs.RemarksLaw.{RemarksLaw}
 use Rattle.script.specs.Sample.{SamplePrints}
 use Rattle.script.specs.SequenceLaw.{SequenceLaw}
+use Rattle.script.specs.VerdictLaw.{VerdictLaw}
 
 pub record ScriptLaws : Type 0 where
   -- a refused record prints its one line, and leaves stage, network, measure, colours and question
@@ -28,6 +29,8 @@ pub record ScriptLaws : Type 0 where
   pub sequence : SequenceLaw
   -- at each moment network and measure are those that were named, and ties, colours and question those of the records since
   pub books : BooksLaw
+  -- a record that belongs to the stage is accepted, or refused as that book and the engine refuse; a GO is accepted
+  pub verdicts : VerdictLaw
   -- each GO prints the coarsest table of that book, and the nodes that the question is true of
   pub answered : GoLaw
   -- what is printed are lines of five forms

@@ -19,6 +19,7 @@ pub mod RemarksLaw
 pub mod SequenceLaw
 pub mod BooksLaw
 pub mod Listed
+pub mod VerdictLaw
 pub mod GoLaw
 pub mod FormsLaw
 pub mod Sample
