@@ -49,8 +49,8 @@ impl AnyNetwork {
         Ok(Ok(AnyNetwork::TwoMode(TwoMode::new(a, b, memory(heap)?))))
     }
 
-    // A list of n nodes and s slots without ties, or the refusal of its making. Only memory can fail.
-    // TEMPORARY: memory always fails, until the network is there.
+    // A list of n nodes and s slots without ties, or the refusal of its making. Only memory can
+    // fail. TEMPORARY: it always does, until the network is there.
     pub(crate) fn list(
         _n: usize,
         _s: usize,
