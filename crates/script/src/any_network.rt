@@ -1,7 +1,8 @@
 // A network whose kind the script chooses.
 ghost use Rattle.std.specs.Prelude.{◌≡◌, IfOk, vec_len};
 ghost use Rattle.network.specs.Put.{put_after, put_answer};
-ghost use Rattle.script.specs.Networks.{enough, matrix_named, meant, meant_in, two_mode_named};
+ghost use Rattle.script.specs.Networks.{enough, list_named, matrix_named, meant, meant_in};
+ghost use Rattle.script.specs.Networks.{two_mode_named};
 
 use network::faults::Fault;
 use network::interface::{Editable, Readable};
@@ -46,6 +47,18 @@ impl AnyNetwork {
             return Ok(Err(Fault::Size));
         }
         Ok(Ok(AnyNetwork::TwoMode(TwoMode::new(a, b, memory(heap)?))))
+    }
+
+    // A list of n nodes and s slots without ties, or the refusal of its making. Only memory can
+    // fail. TEMPORARY: it always does, until the network is there.
+    pub(crate) fn list(
+        _n: usize,
+        _s: usize,
+        _heap: Global,
+    ) -> Result<Result<AnyNetwork, Fault>, AllocError>
+        ensures { IfOk result (λ network. meant_in network ≡ list_named _n _s) }
+    {
+        Err(AllocError)
     }
 }
 

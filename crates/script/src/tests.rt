@@ -221,8 +221,8 @@ fn a_record_that_does_not_fit_the_stage_is_refused(rt: HostRuntime) -> Result<()
 fn an_unknown_mark_is_refused(rt: HostRuntime) -> Result<(), Fail> {
     let heap = rt.alloc();
     for record in [
-        "\n", "N", "\r\n", " NM 3", "\tNM 3", "nm 3", "Nm 3", "N M 3", "NL 3", "NO 0 0", "ER 1 12",
-        "QU 1", "# 3",
+        "\n", "N", "\r\n", " NM 3", "\tNM 3", "nm 3", "Nm 3", "N M 3", "NO 0 0", "ER 1 12", "QU 1",
+        "# 3",
     ] {
         prints(&rt, heap, record, "ER 1 12\n")?;
     }
@@ -266,6 +266,8 @@ fn fields_that_are_wrong_in_number_or_form_are_refused(rt: HostRuntime) -> Resul
         "NM 3 4",
         "NT 3",
         "NT 3 2 1",
+        "NL 3",
+        "NL 3 4 5",
         "MK ",
         "MB 1",
         "MT\r",
