@@ -8,6 +8,7 @@ use Rattle.std.specs.Prelude.{fold}
 use Rattle.std.proofs.lemmas.Bool.Decides.{nat_tests}
 use Rattle.std.proofs.lemmas.List.Elements.{All-nil, All-cons}
 use Rattle.std.proofs.lemmas.Nat.{mul-le}
+use Rattle.network.specs.Listed.{untied_slots}
 use Rattle.network.specs.Matrices.{untied}
 use Rattle.network.specs.TwoModes.{untied_sides}
 use Rattle.network.specs.Meaning.{Meaning}
@@ -21,7 +22,7 @@ use Rattle.driving.specs.declared.call.Call.{Call}
 use Rattle.driving.proofs.Turning.{book_same}
 use Rattle.script.specs.BooksLaw.{Names, Chooses, Silent, First, edit, edits, fed, drafted, asked, Story, BooksLaw}
 use Rattle.script.specs.Drafts.{add_answer, lines_after}
-use Rattle.script.specs.Networks.{enough, list_named, matrix_named, two_mode_named, untied_slots}
+use Rattle.script.specs.Networks.{enough, list_named, matrix_named, two_mode_named}
 use Rattle.script.specs.Records.{Said, parse}
 use Rattle.script.specs.Stages.{Phase, Outcome, named, does, outcome, next_phase}
 use Rattle.script.specs.Transcripts.{Played, blank, play}

@@ -2,6 +2,7 @@
 use Rattle.std.proofs.Common.{◌≡◌, ℕ, ◌+◌, ◌*◌, ◌≤◌, Bool, true, false, cond, ◌&&◌, leb, ltb, List, [], ◌∷◌, ◌++◌, Result, Ok, Err, refl, ap, ◌∙◌, rules, arith}
 use Rattle.std.proofs.lemmas.Bool.Decides.{nat_tests}
 use Rattle.std.proofs.lemmas.Nat.{mul-le}
+use Rattle.network.specs.Listed.{untied_slots}
 use Rattle.network.specs.Meaning.{Meaning}
 use Rattle.network.specs.Put.{put_answer}
 use Rattle.network.specs.declared.faults.Fault as network
@@ -12,7 +13,7 @@ use Rattle.session.specs.Sessions.{colour_answer}
 use Rattle.driving.specs.Book.{Book, after_colour, after_put}
 use Rattle.script.specs.BooksLaw.{Story, fed}
 use Rattle.script.specs.Drafts.{add_answer}
-use Rattle.script.specs.Networks.{enough, untied_slots}
+use Rattle.script.specs.Networks.{enough}
 use Rattle.script.specs.Records.{Said}
 use Rattle.script.specs.RefusedLaw.{at_work, belongs}
 use Rattle.script.specs.Stages.{Phase, answer_in, does, named, outcome}

@@ -16,6 +16,7 @@
 -- A record is given as what its bytes say, or as the refusal of its bytes.
 use Rattle.std.specs.Prelude.{◌≡◌, ◌<◌, ◌≤◌, ℕ, ◌+◌, List, [], ◌∷◌, ◌++◌, fold, Result, Ok}
 use Rattle.std.specs.List.{All, flat_map}
+use Rattle.network.specs.Listed.{untied_slots}
 use Rattle.network.specs.Matrices.{untied}
 use Rattle.network.specs.Meaning.{Meaning}
 use Rattle.network.specs.TwoModes.{untied_sides}
@@ -24,7 +25,6 @@ use Rattle.driving.specs.Book.{Book, opened}
 use Rattle.driving.specs.Courses.{book_after}
 use Rattle.driving.specs.declared.call.Call.{Call}
 use Rattle.script.specs.Drafts.{lines_after}
-use Rattle.script.specs.Networks.{untied_slots}
 use Rattle.script.specs.Records.{Said, parse}
 use Rattle.script.specs.Stages.{Phase}
 use Rattle.script.specs.Transcripts.{blank, play}

@@ -7,6 +7,8 @@ ghost use Rattle.script.specs.Networks.{two_mode_named};
 use network::faults::Fault;
 use network::interface::{Editable, Readable};
 use network::matrix::Matrix;
+use network::slot::Slot;
+use network::slot_list::SlotList;
 use network::two_mode::TwoMode;
 use std::alloc::{AllocError, Global};
 
@@ -14,9 +16,10 @@ use std::alloc::{AllocError, Global};
 pub(crate) enum AnyNetwork {
     OneMode(Matrix),
     TwoMode(TwoMode),
+    Slots(SlotList),
 }
 
-// Bytes enough for any network.
+// Bytes enough for any network that keeps bytes.
 fn memory(heap: Global) -> Result<Vec<u8>, AllocError>
     ensures { IfOk result (λ bytes. vec_len bytes ≡ enough) }
 {
@@ -49,16 +52,21 @@ impl AnyNetwork {
         Ok(Ok(AnyNetwork::TwoMode(TwoMode::new(a, b, memory(heap)?))))
     }
 
-    // A list of n nodes and s slots without ties, or the refusal of its making. Only memory can
-    // fail. TEMPORARY: it always does, until the network is there.
+    // The list of n nodes and s slots without ties, or the refusal of its making. Only memory can
+    // fail.
     pub(crate) fn list(
-        _n: usize,
-        _s: usize,
-        _heap: Global,
+        n: usize,
+        s: usize,
+        heap: Global,
     ) -> Result<Result<AnyNetwork, Fault>, AllocError>
-        ensures { IfOk result (λ network. meant_in network ≡ list_named _n _s) }
+        ensures { IfOk result (λ network. meant_in network ≡ list_named n s) }
     {
-        Err(AllocError)
+        // One slot too many is refused as any more are, and takes less memory.
+        let memory = vec![in heap; Slot::Free; s.min(1025)]?;
+        match SlotList::check(n, &memory) {
+            Ok(()) => Ok(Ok(AnyNetwork::Slots(SlotList::new(n, memory)))),
+            Err(fault) => Ok(Err(fault)),
+        }
     }
 }
 
@@ -69,6 +77,7 @@ impl Readable for AnyNetwork {
         match self {
             AnyNetwork::OneMode(network) => network.nodes(),
             AnyNetwork::TwoMode(network) => network.nodes(),
+            AnyNetwork::Slots(network) => network.nodes(),
         }
     }
 
@@ -76,6 +85,7 @@ impl Readable for AnyNetwork {
         match self {
             AnyNetwork::OneMode(network) => network.tie(i, j),
             AnyNetwork::TwoMode(network) => network.tie(i, j),
+            AnyNetwork::Slots(network) => network.tie(i, j),
         }
     }
 }
@@ -88,6 +98,7 @@ impl Editable for AnyNetwork {
         match self {
             AnyNetwork::OneMode(network) => network.put(i, j, b),
             AnyNetwork::TwoMode(network) => network.put(i, j, b),
+            AnyNetwork::Slots(network) => network.put(i, j, b),
         }
     }
 }
