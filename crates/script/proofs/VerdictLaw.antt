@@ -34,7 +34,7 @@ by_size m true true room = refl
 by_size m true false room = absurd (let e = room refl in search rules)
 by_size m false fits room = refl
 
--- slots may be
+-- a list is refused for its nodes first, and then for its slots
 by_slots : (m : Meaning) (small fits : Bool)
     → answer_in (named (elim (cond small (cond fits (Ok (tt {0})) (Err network.Fault.Memory)) (Err network.Fault.Size)) [ Ok _ ↦ Ok m | Err f ↦ Err f ])) ≡ cond small (cond fits (Ok tt) (Err (Reason.Network network.Fault.Memory))) (Err (Reason.Network network.Fault.Size))
 by_slots m true true = refl

@@ -9,8 +9,8 @@ use Rattle.script.specs.declared.faults.Reason.{Reason}
 
 abbrev pub marks : List (List ℕ)
 marks =
-    codes "NM" ∷ codes "NT" ∷ codes "NL" ∷ codes "MK" ∷ codes "MB" ∷ codes "MT" ∷ codes "PU" ∷ codes "CO"
-    ∷ codes "QC" ∷ codes "QN" ∷ codes "QA" ∷ codes "QT" ∷ codes "GO" ∷ codes "RM" ∷ []
+    codes "NM" ∷ codes "NT" ∷ codes "NL" ∷ codes "MK" ∷ codes "MB" ∷ codes "MT" ∷ codes "PU"
+    ∷ codes "CO" ∷ codes "QC" ∷ codes "QN" ∷ codes "QA" ∷ codes "QT" ∷ codes "GO" ∷ codes "RM" ∷ []
 
 abbrev pub Marked : List ℕ → Type 0
 Marked text = Contains marks (take 2 text)
