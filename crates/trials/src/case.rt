@@ -30,10 +30,24 @@ impl Case {
         }
     }
 
-    /// Holds an answer of the engine against the wanted one. `what` and `at` say what was asked.
+    /// Holds what the engine gave, when asked this, against what it was to give.
     pub(crate) fn hold<T: PartialEq + fmt::Debug + Drop>(
         self,
-        what: &str,
+        asked: &str,
+        given: T,
+        wanted: T,
+    ) -> Result<(), Trouble> {
+        if given == wanted {
+            return Ok(());
+        }
+        let heap = self.heap;
+        Err(self.differs(format!(in heap; "{asked} gives {given:?}, and not {wanted:?}")))
+    }
+
+    /// The same, where a number was handed.
+    pub(crate) fn hold_at<T: PartialEq + fmt::Debug + Drop>(
+        self,
+        asked: &str,
         at: usize,
         given: T,
         wanted: T,
@@ -42,7 +56,7 @@ impl Case {
             return Ok(());
         }
         let heap = self.heap;
-        Err(self.differs(format!(in heap; "{what} {at} gives {given:?}, and not {wanted:?}")))
+        Err(self.differs(format!(in heap; "{asked}({at}) gives {given:?}, and not {wanted:?}")))
     }
 }
 

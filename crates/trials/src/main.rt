@@ -14,21 +14,67 @@ mod search;
 mod shapes;
 // One case that is held, and what differs in it.
 mod case;
+// What a question is true of.
+mod truth;
+// What a step may do.
+mod steps;
+// What a session tells of its roles.
+mod tellings;
+// A small question, put to a settled session.
+mod asking;
+// The vet of every table.
+mod vets;
+// A network settled from one colouring.
+mod settling;
+// Every small network of a shape.
+mod families;
 // What goes wrong.
 mod trouble;
 
+use families::{Counts, Family, hold_family};
+use shapes::Shape;
 use trouble::Trouble;
 
 use std::process::ExitCode;
 
-fn run(_rt: &(impl Print + AllocGlobal)) -> Result<(), Trouble> {
+// The families, with the number of colours of the colourings.
+const FAMILIES: [(Shape, usize, u8); 14] = [
+    (Shape::Matrix, 1, 1),
+    (Shape::Matrix, 2, 2),
+    (Shape::Matrix, 3, 3),
+    (Shape::Turned, 1, 1),
+    (Shape::Turned, 2, 2),
+    (Shape::Turned, 3, 3),
+    (Shape::NoLoops, 1, 1),
+    (Shape::NoLoops, 2, 2),
+    (Shape::NoLoops, 3, 3),
+    (Shape::Sides(1), 2, 2),
+    (Shape::Sides(1), 3, 3),
+    (Shape::Sides(2), 3, 3),
+    (Shape::Sides(2), 4, 4),
+    (Shape::Sides(3), 5, 2),
+];
+
+// Every small network.
+fn small_networks(rt: &(impl Print + AllocGlobal)) -> Result<(), Trouble> {
+    for (shape, nodes, colours) in FAMILIES {
+        let counts = hold_family(rt.alloc(), Family { shape, nodes, colours })?;
+        let Counts { networks, settled, vetted } = counts;
+        println!(rt;
+            "{shape} of {nodes} nodes: {networks} networks, {settled} tables settled, {vetted} vetted"
+        )?;
+    }
     Ok(())
+}
+
+fn run(rt: &(impl Print + AllocGlobal)) -> Result<(), Trouble> {
+    small_networks(rt)
 }
 
 fn main(rt: HostRuntime) -> Result<ExitCode, Trouble> {
     match run(&rt) {
         Err(Trouble::Difference(difference)) => {
-            println!(rt; "{difference}")?;
+            print!(rt; "{difference}")?;
             Ok(ExitCode::from(1))
         }
         outcome => outcome.map(|()| ExitCode::SUCCESS),

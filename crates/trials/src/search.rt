@@ -1,21 +1,21 @@
 // Which tables are regular, and which of them is the coarsest, by trying all.
-use super::book::Book;
+use super::case::Case;
 use super::tables::{refines, role_count};
-use super::totals::{Weighing, total_toward};
-use std::alloc::{AllocError, Global};
+use super::totals::total_toward;
+use std::alloc::AllocError;
 
 // Whether nodes x and y have equal totals toward every role.
-fn agree(book: &Book, weighing: Weighing, table: &[u8], x: usize, y: usize) -> bool {
+fn agree(case: &Case, table: &[u8], x: usize, y: usize) -> bool {
     table
         .iter()
-        .all(|&z| total_toward(book, weighing, x, table, z) == total_toward(book, weighing, y, table, z))
+        .all(|&z| total_toward(case, x, table, z) == total_toward(case, y, table, z))
 }
 
 /// Whether any two nodes of one role have equal totals toward every role.
-pub(crate) fn is_regular(book: &Book, weighing: Weighing, table: &[u8]) -> bool {
+pub(crate) fn is_regular(case: &Case, table: &[u8]) -> bool {
     table.iter().enumerate().all(|(x, &role)| {
         let mut others = table.iter().enumerate().skip(x.saturating_add(1));
-        others.all(|(y, &other)| role != other || agree(book, weighing, table, x, y))
+        others.all(|(y, &other)| role != other || agree(case, table, x, y))
     })
 }
 
@@ -27,15 +27,10 @@ pub(crate) struct Search {
 
 impl Search {
     /// The regular ones of the tables.
-    pub(crate) fn among(
-        heap: Global,
-        book: &Book,
-        weighing: Weighing,
-        tables: &[Vec<u8>],
-    ) -> Result<Search, AllocError> {
-        let mut regular = Vec::new(heap);
+    pub(crate) fn among(case: &Case, tables: &[Vec<u8>]) -> Result<Search, AllocError> {
+        let mut regular = Vec::new(case.heap);
         for table in tables {
-            if is_regular(book, weighing, table) {
+            if is_regular(case, table) {
                 regular.push(table.clone()?)?;
             }
         }

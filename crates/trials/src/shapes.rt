@@ -37,7 +37,7 @@ impl fmt::Display for Shape {
 }
 
 impl Shape {
-    fn allows(self, i: usize, j: usize) -> bool {
+    pub(crate) fn allows(self, i: usize, j: usize) -> bool {
         match self {
             Shape::Matrix | Shape::Turned => true,
             Shape::NoLoops => i != j,
@@ -99,7 +99,7 @@ fn matrix_below(case: &Case, below: &[Tie]) -> Result<Matrix, Trouble> {
         } else {
             matrix.put(from, to, byte)
         };
-        case.hold("a put below from", from, answer, Ok(()))?;
+        case.hold("a put below", answer, Ok(()))?;
     }
     Ok(matrix)
 }

@@ -1,5 +1,5 @@
 // Totals by the three measures, as they are defined, and the tests of a total.
-use super::book::Book;
+use super::case::Case;
 use std::fmt;
 
 /// The measure by which ties are weighed.
@@ -81,11 +81,11 @@ fn bundle(to: u8, from: u8) -> u64 {
 }
 
 /// The total of x toward the nodes that have this label.
-pub(crate) fn total_toward(book: &Book, weighing: Weighing, x: usize, labels: &[u8], label: u8) -> Total {
-    let mut total = Total::nothing(weighing);
+pub(crate) fn total_toward(case: &Case, x: usize, labels: &[u8], label: u8) -> Total {
+    let mut total = Total::nothing(case.weighing);
     for (y, &its) in labels.iter().enumerate() {
         if its == label {
-            total = total.with(book.tie(x, y), book.tie(y, x));
+            total = total.with(case.book.tie(x, y), case.book.tie(y, x));
         }
     }
     total

@@ -1,0 +1,201 @@
+// Families of networks: each network of a shape and size whose bytes are 0 and 1.
+use super::book::{Book, Tie};
+use super::case::Case;
+use super::search::Search;
+use super::settling::Settling;
+use super::shapes::{Shape, run_on};
+use super::tables::all_tables;
+use super::totals::{WEIGHINGS, Weighing};
+use super::trouble::Trouble;
+use std::alloc::{AllocError, Global};
+
+/// Every network of the shape with so many nodes, from every colouring by so many colours.
+#[derive(Clone, Copy)]
+pub(crate) struct Family {
+    pub(crate) shape: Shape,
+    pub(crate) nodes: usize,
+    pub(crate) colours: u8,
+}
+
+/// How much was held.
+#[derive(Clone, Copy, Default)]
+pub(crate) struct Counts {
+    pub(crate) networks: usize,
+    pub(crate) settled: usize,
+    pub(crate) vetted: usize,
+}
+
+// What the networks of a family have in common.
+#[derive(Drop)]
+struct Common {
+    family: Family,
+    heap: Global,
+    tables: Vec<Vec<u8>>,
+    colourings: Vec<Vec<u8>>,
+}
+
+// Each row with one digit more.
+fn longer(heap: Global, rows: &[Vec<u8>], base: u8) -> Result<Vec<Vec<u8>>, AllocError> {
+    let mut longer = Vec::new(heap);
+    for row in rows {
+        for digit in 0..base {
+            let mut next = row.clone()?;
+            next.push(digit)?;
+            longer.push(next)?;
+        }
+    }
+    Ok(longer)
+}
+
+// All rows of so many digits below the base.
+fn all_rows(heap: Global, length: usize, base: u8) -> Result<Vec<Vec<u8>>, AllocError> {
+    let mut rows = Vec::new(heap);
+    rows.push(Vec::new(heap))?;
+    for _ in 0..length {
+        rows = longer(heap, &rows, base)?;
+    }
+    Ok(rows)
+}
+
+impl Family {
+    // The pairs that may be tied, with byte 0. Through no-loops also those that only the network
+    // below can tie.
+    fn pairs(self, heap: Global) -> Result<Vec<Tie>, AllocError> {
+        let mut pairs = Vec::new(heap);
+        for from in 0..self.nodes {
+            for to in 0..self.nodes {
+                let pair = Tie { from, to, byte: 0 };
+                if self.shape.allows(from, to) || self.shape.is_below(pair) {
+                    pairs.push(pair)?;
+                }
+            }
+        }
+        Ok(pairs)
+    }
+}
+
+// The ties of a row of bytes that are put below, or those that are not.
+fn ties(
+    heap: Global,
+    shape: Shape,
+    pairs: &[Tie],
+    bytes: &[u8],
+    below: bool,
+) -> Result<Vec<Tie>, AllocError> {
+    let mut ties = Vec::new(heap);
+    for (&pair, &byte) in pairs.iter().zip(bytes.iter()) {
+        if byte > 0 && shape.is_below(pair) == below {
+            ties.push(Tie { byte, ..pair })?;
+        }
+    }
+    Ok(ties)
+}
+
+// The network with the ties that are put below.
+fn with_below(shape: Shape, nodes: usize, below: &[Tie]) -> Book {
+    let mut book = shape.untied(nodes);
+    for &Tie { from, to, byte } in below {
+        book.set(from, to, byte);
+    }
+    book
+}
+
+// The network with the puts that it takes.
+fn after_puts(start: Book, puts: &[Tie]) -> Book {
+    let mut book = start;
+    for &Tie { from, to, byte } in puts {
+        let _ = book.put(from, to, byte);
+    }
+    book
+}
+
+// The book with a colour for each node.
+fn coloured(book: Book, colours: &[u8]) -> Book {
+    let mut book = book;
+    for (x, &colour) in colours.iter().enumerate() {
+        let _ = book.colour(x, colour);
+    }
+    book
+}
+
+impl Common {
+    fn of(heap: Global, family: Family) -> Result<Common, AllocError> {
+        Ok(Common {
+            family,
+            heap,
+            tables: all_tables(heap, family.nodes)?,
+            colourings: all_rows(heap, family.nodes, family.colours)?,
+        })
+    }
+
+    // Settles one network by one measure from each colouring, and vets each table once.
+    fn hold_by(
+        &self,
+        weighing: Weighing,
+        start: Book,
+        below: &[Tie],
+        puts: &[Tie],
+        counts: &mut Counts,
+    ) -> Result<(), Trouble> {
+        let heap = self.heap;
+        let case = Case {
+            heap,
+            shape: self.family.shape,
+            weighing,
+            book: after_puts(start, puts),
+        };
+        let search = Search::among(&case, &self.tables)?;
+        let mut vetted = self.tables.as_slice();
+        for colours in &self.colourings {
+            let Some(coarsest) = search.coarsest(colours) else {
+                return Err(case.differs(format!(in heap; "no table is coarsest of {colours:?}")));
+            };
+            let case = Case {
+                book: coloured(case.book, colours),
+                ..case
+            };
+            let settling = Settling {
+                case,
+                start,
+                puts,
+                coarsest,
+                vetted,
+            };
+            run_on(&case, below, &settling)?;
+            counts.settled = counts.settled.saturating_add(1);
+            counts.vetted = counts.vetted.saturating_add(vetted.len());
+            vetted = &[];
+        }
+        Ok(())
+    }
+
+    // Holds the network with these bytes by each measure.
+    fn hold_network(
+        &self,
+        pairs: &[Tie],
+        bytes: &[u8],
+        counts: &mut Counts,
+    ) -> Result<(), Trouble> {
+        let heap = self.heap;
+        let Family { shape, nodes, .. } = self.family;
+        let below = ties(heap, shape, pairs, bytes, true)?;
+        let puts = ties(heap, shape, pairs, bytes, false)?;
+        let start = with_below(shape, nodes, &below);
+        for weighing in WEIGHINGS {
+            self.hold_by(weighing, start, &below, &puts, counts)?;
+        }
+        counts.networks = counts.networks.saturating_add(1);
+        Ok(())
+    }
+}
+
+/// Holds every network of the family.
+pub(crate) fn hold_family(heap: Global, family: Family) -> Result<Counts, Trouble> {
+    let common = Common::of(heap, family)?;
+    let pairs = family.pairs(heap)?;
+    let mut counts = Counts::default();
+    for bytes in all_rows(heap, pairs.len(), 2)?.iter() {
+        common.hold_network(&pairs, bytes, &mut counts)?;
+    }
+    Ok(counts)
+}
