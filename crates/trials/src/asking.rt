@@ -10,8 +10,8 @@ use question::line::Line;
 use session::settled::Settled;
 use std::alloc::AllocError;
 
-// Six lines of five or fewer nodes, and some bytes more.
-const ROOM: usize = 40;
+// Enough for six lines of nine nodes, and more.
+const ROOM: usize = 60;
 
 // A question with each kind of line, and tests that the measure has.
 fn small_question(weighing: Weighing) -> [Line; 6] {
@@ -68,16 +68,16 @@ fn hold_answer(
 }
 
 // Holds the byte at each node's role in an ask's last row against the truth of the node.
-fn hold_agreement(
-    case: &Case,
-    question: &[Line],
-    table: &[u8],
-    row: &[u8],
-) -> Result<(), Trouble> {
+fn hold_agreement(case: &Case, question: &[Line], table: &[u8], row: &[u8]) -> Result<(), Trouble> {
     let rows = truths(case, question)?;
     let last = rows.last().map_or(&[][..], |row| row.as_slice());
     for (x, (&role, &truth)) in table.iter().zip(last.iter()).enumerate() {
-        case.hold_at("ask at the role of node", x, row.get(usize::from(role)), Some(&truth))?;
+        case.hold_at(
+            "ask at the role of node",
+            x,
+            row.get(usize::from(role)),
+            Some(&truth),
+        )?;
     }
     Ok(())
 }

@@ -94,6 +94,24 @@ impl Book {
         Ok(())
     }
 
+    /// The network after these puts, of which some may be refused.
+    pub(crate) fn after_puts(self, puts: &[Tie]) -> Book {
+        let mut book = self;
+        for &Tie { from, to, byte } in puts {
+            let _ = book.put(from, to, byte);
+        }
+        book
+    }
+
+    /// The network with a colour for each node.
+    pub(crate) fn coloured(self, colours: &[u8]) -> Book {
+        let mut book = self;
+        for (x, &colour) in colours.iter().enumerate() {
+            let _ = book.colour(x, colour);
+        }
+        book
+    }
+
     /// A colour, refused where i is no node.
     pub(crate) fn colour(&mut self, i: usize, colour: u8) -> Result<(), SessionFault> {
         if i >= self.nodes {

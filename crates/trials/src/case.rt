@@ -1,5 +1,6 @@
 // One case that is held: a network of a shape, its colours, and a measure. It prints as a script.
 use super::book::Book;
+use super::drawing::Drawing;
 use super::shapes::Shape;
 use super::totals::Weighing;
 use super::trouble::Trouble;
@@ -22,6 +23,24 @@ pub(crate) struct Difference {
 }
 
 impl Case {
+    /// A network that was drawn, by a measure.
+    pub(crate) fn of(heap: Global, weighing: Weighing, drawing: &Drawing) -> Case {
+        Case {
+            heap,
+            shape: drawing.shape,
+            weighing,
+            book: drawing.book,
+        }
+    }
+
+    /// With a colour for each node.
+    pub(crate) fn coloured(self, colours: &[u8]) -> Case {
+        Case {
+            book: self.book.coloured(colours),
+            ..self
+        }
+    }
+
     /// The difference in so many words, or want of memory for them.
     pub(crate) fn differs(self, what: Result<String, AllocError>) -> Trouble {
         match what {
@@ -103,7 +122,9 @@ impl fmt::Display for Case {
 impl fmt::Display for Difference {
     fn fmt<W: fmt::Write>(&self, f: &mut fmt::Formatter<W>) -> fmt::Result {
         let Case {
-            shape, weighing, ..
+            shape,
+            weighing,
+            ..
         } = self.case;
         writeln!(f, "on a {shape}, by {weighing}: {}", self.what)?;
         let script = &self.case;

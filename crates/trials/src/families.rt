@@ -1,9 +1,10 @@
 // Families of networks: each network of a shape and size whose bytes are 0 and 1.
-use super::book::{Book, Tie};
+use super::book::Tie;
 use super::case::Case;
+use super::drawing::Drawing;
 use super::search::Search;
 use super::settling::Settling;
-use super::shapes::{Shape, run_on};
+use super::shapes::Shape;
 use super::tables::all_tables;
 use super::totals::{WEIGHINGS, Weighing};
 use super::trouble::Trouble;
@@ -74,48 +75,15 @@ impl Family {
     }
 }
 
-// The ties of a row of bytes that are put below, or those that are not.
-fn ties(
-    heap: Global,
-    shape: Shape,
-    pairs: &[Tie],
-    bytes: &[u8],
-    below: bool,
-) -> Result<Vec<Tie>, AllocError> {
+// The ties that a row of bytes makes of the pairs.
+fn ties(heap: Global, pairs: &[Tie], bytes: &[u8]) -> Result<Vec<Tie>, AllocError> {
     let mut ties = Vec::new(heap);
     for (&pair, &byte) in pairs.iter().zip(bytes.iter()) {
-        if byte > 0 && shape.is_below(pair) == below {
+        if byte > 0 {
             ties.push(Tie { byte, ..pair })?;
         }
     }
     Ok(ties)
-}
-
-// The network with the ties that are put below.
-fn with_below(shape: Shape, nodes: usize, below: &[Tie]) -> Book {
-    let mut book = shape.untied(nodes);
-    for &Tie { from, to, byte } in below {
-        book.set(from, to, byte);
-    }
-    book
-}
-
-// The network with the puts that it takes.
-fn after_puts(start: Book, puts: &[Tie]) -> Book {
-    let mut book = start;
-    for &Tie { from, to, byte } in puts {
-        let _ = book.put(from, to, byte);
-    }
-    book
-}
-
-// The book with a colour for each node.
-fn coloured(book: Book, colours: &[u8]) -> Book {
-    let mut book = book;
-    for (x, &colour) in colours.iter().enumerate() {
-        let _ = book.colour(x, colour);
-    }
-    book
 }
 
 impl Common {
@@ -132,36 +100,24 @@ impl Common {
     fn hold_by(
         &self,
         weighing: Weighing,
-        start: Book,
-        below: &[Tie],
-        puts: &[Tie],
+        drawing: &Drawing,
         counts: &mut Counts,
     ) -> Result<(), Trouble> {
         let heap = self.heap;
-        let case = Case {
-            heap,
-            shape: self.family.shape,
-            weighing,
-            book: after_puts(start, puts),
-        };
+        let case = Case::of(heap, weighing, drawing);
         let search = Search::among(&case, &self.tables)?;
         let mut vetted = self.tables.as_slice();
         for colours in &self.colourings {
             let Some(coarsest) = search.coarsest(colours) else {
                 return Err(case.differs(format!(in heap; "no table is coarsest of {colours:?}")));
             };
-            let case = Case {
-                book: coloured(case.book, colours),
-                ..case
-            };
             let settling = Settling {
-                case,
-                start,
-                puts,
+                case: case.coloured(colours),
+                drawing,
                 coarsest,
                 vetted,
             };
-            run_on(&case, below, &settling)?;
+            settling.hold()?;
             counts.settled = counts.settled.saturating_add(1);
             counts.vetted = counts.vetted.saturating_add(vetted.len());
             vetted = &[];
@@ -169,20 +125,12 @@ impl Common {
         Ok(())
     }
 
-    // Holds the network with these bytes by each measure.
-    fn hold_network(
-        &self,
-        pairs: &[Tie],
-        bytes: &[u8],
-        counts: &mut Counts,
-    ) -> Result<(), Trouble> {
-        let heap = self.heap;
+    // Holds the network with these ties by each measure.
+    fn hold_network(&self, ties: &[Tie], counts: &mut Counts) -> Result<(), Trouble> {
         let Family { shape, nodes, .. } = self.family;
-        let below = ties(heap, shape, pairs, bytes, true)?;
-        let puts = ties(heap, shape, pairs, bytes, false)?;
-        let start = with_below(shape, nodes, &below);
+        let drawing = Drawing::of(self.heap, shape, nodes, ties)?;
         for weighing in WEIGHINGS {
-            self.hold_by(weighing, start, &below, &puts, counts)?;
+            self.hold_by(weighing, &drawing, counts)?;
         }
         counts.networks = counts.networks.saturating_add(1);
         Ok(())
@@ -195,7 +143,7 @@ pub(crate) fn hold_family(heap: Global, family: Family) -> Result<Counts, Troubl
     let pairs = family.pairs(heap)?;
     let mut counts = Counts::default();
     for bytes in all_rows(heap, pairs.len(), 2)?.iter() {
-        common.hold_network(&pairs, bytes, &mut counts)?;
+        common.hold_network(&ties(heap, &pairs, bytes)?, &mut counts)?;
     }
     Ok(counts)
 }

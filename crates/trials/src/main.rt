@@ -12,6 +12,8 @@ mod tables;
 mod search;
 // The shapes of networks.
 mod shapes;
+// How a network comes to its ties.
+mod drawing;
 // One case that is held, and what differs in it.
 mod case;
 // What a question is true of.
@@ -28,14 +30,29 @@ mod vets;
 mod settling;
 // Every small network of a shape.
 mod families;
+// The small networks with known tables.
+mod known;
+// Random numbers from a seed.
+mod dice;
+// Lists of calls, drawn at random.
+mod turns;
+// The numbers that roles can have after a settle.
+mod numberings;
+// What the calls that alter nothing tell.
+mod told;
+// A list of calls replayed by the model.
+mod replay;
+// Random lists of calls, driven and replayed.
+mod lists;
 // What goes wrong.
 mod trouble;
 
 use families::{Counts, Family, hold_family};
+use known::hold_known;
+use lists::{Tried, hold_lists};
 use shapes::Shape;
-use trouble::Trouble;
-
 use std::process::ExitCode;
+use trouble::Trouble;
 
 // The families, with the number of colours of the colourings.
 const FAMILIES: [(Shape, usize, u8); 14] = [
@@ -58,8 +75,19 @@ const FAMILIES: [(Shape, usize, u8); 14] = [
 // Every small network.
 fn small_networks(rt: &(impl Print + AllocGlobal)) -> Result<(), Trouble> {
     for (shape, nodes, colours) in FAMILIES {
-        let counts = hold_family(rt.alloc(), Family { shape, nodes, colours })?;
-        let Counts { networks, settled, vetted } = counts;
+        let counts = hold_family(
+            rt.alloc(),
+            Family {
+                shape,
+                nodes,
+                colours,
+            },
+        )?;
+        let Counts {
+            networks,
+            settled,
+            vetted,
+        } = counts;
         println!(rt;
             "{shape} of {nodes} nodes: {networks} networks, {settled} tables settled, {vetted} vetted"
         )?;
@@ -67,8 +95,34 @@ fn small_networks(rt: &(impl Print + AllocGlobal)) -> Result<(), Trouble> {
     Ok(())
 }
 
+// The shapes on which lists are driven.
+const LISTED: [Shape; 6] = [
+    Shape::Matrix,
+    Shape::Turned,
+    Shape::NoLoops,
+    Shape::Sides(1),
+    Shape::Sides(2),
+    Shape::Sides(3),
+];
+
+// Lists of calls on each shape.
+fn random_lists(rt: &(impl Print + AllocGlobal)) -> Result<(), Trouble> {
+    for shape in LISTED {
+        let Tried { lists, calls } = hold_lists(rt.alloc(), shape, 200)?;
+        println!(rt; "{shape}: {lists} lists of {calls} calls")?;
+    }
+    Ok(())
+}
+
 fn run(rt: &(impl Print + AllocGlobal)) -> Result<(), Trouble> {
-    small_networks(rt)
+    small_networks(rt)?;
+    let Counts {
+        networks,
+        settled,
+        ..
+    } = hold_known(rt.alloc())?;
+    println!(rt; "known tables: {networks} networks, {settled} tables settled")?;
+    random_lists(rt)
 }
 
 fn main(rt: HostRuntime) -> Result<ExitCode, Trouble> {

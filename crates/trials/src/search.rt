@@ -6,9 +6,7 @@ use std::alloc::AllocError;
 
 // Whether nodes x and y have equal totals toward every role.
 fn agree(case: &Case, table: &[u8], x: usize, y: usize) -> bool {
-    table
-        .iter()
-        .all(|&z| total_toward(case, x, table, z) == total_toward(case, y, table, z))
+    table.iter().all(|&z| total_toward(case, x, table, z) == total_toward(case, y, table, z))
 }
 
 /// Whether any two nodes of one role have equal totals toward every role.
@@ -47,10 +45,8 @@ impl Search {
 
     /// The coarsest regular table within the classes. None where there is not just one.
     pub(crate) fn coarsest(&self, classes: &[u8]) -> Option<&Vec<u8>> {
-        let mut coarsest = self
-            .regular
-            .iter()
-            .filter(|&table| refines(table, classes) && self.is_coarsest(classes, table));
+        let mut coarsest = self.regular.iter().filter(|&table| refines(table, classes)
+            && self.is_coarsest(classes, table));
         let first = coarsest.next();
         if coarsest.next().is_some() {
             return None;

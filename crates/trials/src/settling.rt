@@ -1,8 +1,9 @@
 // A network settled from one colouring, whole and step by step, with a question put to its roles.
 use super::asking::hold_question;
-use super::book::{Book, Tie};
+use super::book::Tie;
 use super::case::Case;
-use super::shapes::Trial;
+use super::drawing::Drawing;
+use super::shapes::{Trial, run_on};
 use super::steps::{Stepped, after_step};
 use super::tables::{head, in_order};
 use super::tellings::hold_roles;
@@ -18,9 +19,7 @@ use session::step::Step;
 pub(crate) struct Settling<'a> {
     /// The network with all its ties, and colours.
     pub(crate) case: Case,
-    /// The network before the puts, which are given in order.
-    pub(crate) start: Book,
-    pub(crate) puts: &'a [Tie],
+    pub(crate) drawing: &'a Drawing,
     /// The coarsest table.
     pub(crate) coarsest: &'a [u8],
     /// The tables that are vetted.
@@ -28,10 +27,15 @@ pub(crate) struct Settling<'a> {
 }
 
 impl Settling<'_> {
+    /// Settles the network and holds what is told.
+    pub(crate) fn hold(&self) -> Result<(), Trouble> {
+        run_on(&self.case, self.drawing, self)
+    }
+
     // Gives the puts and the colours. Each is answered as the book answers it.
     fn draw<N: Editable, M: Measure>(&self, session: &mut Open<N, M>) -> Result<(), Trouble> {
-        let mut book = self.start;
-        for &Tie { from, to, byte } in self.puts {
+        let mut book = self.drawing.start;
+        for &Tie { from, to, byte } in &self.drawing.puts {
             let wanted = book.put(from, to, byte);
             let given = session.put(from, to, byte);
             self.case.hold_at("a put from node", from, given, wanted)?;

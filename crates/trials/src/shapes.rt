@@ -1,6 +1,7 @@
 // The shapes of networks: what each means without ties, and the engine's network of it.
 use super::book::{Book, Tie};
 use super::case::Case;
+use super::drawing::Drawing;
 use super::totals::Weighing;
 use super::trouble::Trouble;
 use measure::bundles::Bundles;
@@ -56,6 +57,14 @@ impl Shape {
         book
     }
 
+    /// The least number of nodes.
+    pub(crate) fn fewest(self) -> usize {
+        match self {
+            Shape::Matrix | Shape::Turned | Shape::NoLoops => 1,
+            Shape::Sides(a) => a.saturating_add(1),
+        }
+    }
+
     /// Whether the tie is put below, before the layer goes over. Through turned half of them are.
     pub(crate) fn is_below(self, tie: Tie) -> bool {
         match self {
@@ -76,11 +85,7 @@ pub(crate) trait Trial {
 }
 
 // The trial by the measure of the case.
-fn run_by<N: Editable + Drop, T: Trial>(
-    case: &Case,
-    network: N,
-    trial: &T,
-) -> Result<(), Trouble> {
+fn run_by<N: Editable + Drop, T: Trial>(case: &Case, network: N, trial: &T) -> Result<(), Trouble> {
     match case.weighing {
         Weighing::Kinds => trial.run(network, Kinds),
         Weighing::Bundles => trial.run(network, Bundles),
@@ -89,11 +94,11 @@ fn run_by<N: Editable + Drop, T: Trial>(
 }
 
 // A matrix with the ties that are put below.
-fn matrix_below(case: &Case, below: &[Tie]) -> Result<Matrix, Trouble> {
+fn matrix_below(case: &Case, drawing: &Drawing) -> Result<Matrix, Trouble> {
     let heap = case.heap;
     let nodes = case.book.nodes;
     let mut matrix = Matrix::new(nodes, vec![in heap; 7; nodes.saturating_mul(nodes)]?);
-    for &Tie { from, to, byte } in below {
+    for &Tie { from, to, byte } in &drawing.below {
         let answer = if case.shape == Shape::Turned {
             matrix.put(to, from, byte)
         } else {
@@ -105,13 +110,13 @@ fn matrix_below(case: &Case, below: &[Tie]) -> Result<Matrix, Trouble> {
 }
 
 /// The trial of the network of the case's shape and size, with the ties that are put below.
-pub(crate) fn run_on<T: Trial>(case: &Case, below: &[Tie], trial: &T) -> Result<(), Trouble> {
+pub(crate) fn run_on<T: Trial>(case: &Case, drawing: &Drawing, trial: &T) -> Result<(), Trouble> {
     let heap = case.heap;
     let nodes = case.book.nodes;
     match case.shape {
-        Shape::Matrix => run_by(case, matrix_below(case, below)?, trial),
-        Shape::Turned => run_by(case, Turned(matrix_below(case, below)?), trial),
-        Shape::NoLoops => run_by(case, NoLoops(matrix_below(case, below)?), trial),
+        Shape::Matrix => run_by(case, matrix_below(case, drawing)?, trial),
+        Shape::Turned => run_by(case, Turned(matrix_below(case, drawing)?), trial),
+        Shape::NoLoops => run_by(case, NoLoops(matrix_below(case, drawing)?), trial),
         Shape::Sides(a) => {
             let b = nodes.saturating_sub(a);
             let memory = vec![in heap; 7; a.saturating_mul(b)]?;

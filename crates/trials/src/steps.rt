@@ -23,12 +23,7 @@ pub(crate) fn label(role: usize) -> u8 {
 
 // The table after the nodes of role `part` leave it that have not its head's total toward `toward`.
 // None where none does, and where the roles are none of the table.
-fn split(
-    case: &Case,
-    table: &[u8],
-    part: u8,
-    toward: u8,
-) -> Result<Option<Vec<u8>>, AllocError> {
+fn split(case: &Case, table: &[u8], part: u8, toward: u8) -> Result<Option<Vec<u8>>, AllocError> {
     let (Some(first), Some(_)) = (head(table, part), head(table, toward)) else {
         return Ok(None);
     };
@@ -43,11 +38,7 @@ fn split(
 }
 
 /// Holds a step's answer against the table that it was given.
-pub(crate) fn after_step(
-    case: &Case,
-    table: &[u8],
-    step: Step,
-) -> Result<Stepped, AllocError> {
+pub(crate) fn after_step(case: &Case, table: &[u8], step: Step) -> Result<Stepped, AllocError> {
     let Step::Split {
         part,
         toward,

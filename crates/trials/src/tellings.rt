@@ -13,9 +13,13 @@ use session::settled::Settled;
 /// What both kinds of session tell.
 pub(crate) trait Tells {
     fn count(&self) -> usize;
+
     fn split_count(&self) -> usize;
+
     fn number_of(&self, x: usize) -> Result<usize, Fault>;
+
     fn record(&self, r: usize) -> Result<Role, Fault>;
+
     fn numbers(&self) -> &[u8];
 }
 
@@ -89,11 +93,7 @@ fn hold_records<S: Tells>(case: &Case, session: &S) -> Result<(), Trouble> {
 }
 
 /// Holds all that a session tells: these nodes are to be together, whatever the roles' numbers.
-pub(crate) fn hold_roles<S: Tells>(
-    case: &Case,
-    session: &S,
-    wanted: &[u8],
-) -> Result<(), Trouble> {
+pub(crate) fn hold_roles<S: Tells>(case: &Case, session: &S, wanted: &[u8]) -> Result<(), Trouble> {
     let heap = case.heap;
     let table = session.numbers();
     if !same_roles(table, wanted) {
