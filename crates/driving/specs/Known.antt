@@ -7,7 +7,6 @@
 --   Drawing           a network without ties, and the edits that draw ties and colours
 --   drawn             the book of a drawing
 --   ties              edits that put byte 1 for each pair, accepted
---   untied_slots      a network without ties, of which so many pairs may be tied at a time
 --   WeighedBy         one of the three measures
 --   Irregular         a table, and three nodes that show why it is not regular
 --   Shows             they show it, and no other three do, so they are the vet's answer
@@ -17,7 +16,8 @@
 --   Known             each edit of the drawing answers so, and what is known holds
 --   known_networks    the networks, once for each measure under which they are known
 --   AllKnown          each of them is known
-use Rattle.std.specs.Prelude.{◌≡◌, ℕ, ◌+◌, ◌<◌, true, List, [], ◌∷◌, length, map, Option, Some, Result, Ok, Err, All}
+use Rattle.std.specs.Prelude.{◌≡◌, ℕ, ◌+◌, ◌<◌, List, [], ◌∷◌, length, map, Option, Some, Result, Ok, Err, All}
+use Rattle.network.specs.Listed.{untied_slots}
 use Rattle.network.specs.Meaning.{Meaning}
 use Rattle.network.specs.Put.{put_answer}
 use Rattle.network.specs.Matrices.{untied}
@@ -115,10 +115,6 @@ Known known = Answered (opened known.drawing.start) known.drawing.edits × Known
 abbrev pub ties : List (ℕ × ℕ) → List Edit
 ties pairs = map (λ pair. put pair.0 pair.1 1 (Ok tt)) pairs
 
--- n nodes without a tie; at most so many pairs may be tied at a time
-abbrev pub untied_slots : ℕ → ℕ → Meaning
-untied_slots n capacity = record { nodes = n; tie = λ _ _. 0; allowed = λ _ _. true; capacity = capacity }
-
 abbrev pub two_colours : KnownNetwork
 two_colours = record { drawing = record { start = untied 4; edits = colour 0 0 (Ok tt) ∷ colour 1 1 (Ok tt) ∷ colour 2 0 (Ok tt) ∷ colour 3 1 (Ok tt) ∷ [] }; weighed = by_kinds; table = 0 ∷ 1 ∷ 0 ∷ 1 ∷ []; count = 2; splits = 0; irregular = [] }
 
@@ -164,7 +160,7 @@ two_sides = record { drawing = record { start = untied_sides (3, 2); edits = tie
 
 -- the second tie waits until the first leaves the only slot
 abbrev pub one_slot : KnownNetwork
-one_slot = record { drawing = record { start = untied_slots 3 1; edits = put 0 1 1 (Ok tt) ∷ put 0 2 1 (Err NetworkFault.Full) ∷ put 0 1 0 (Ok tt) ∷ put 0 2 1 (Ok tt) ∷ [] }; weighed = by_kinds; table = 0 ∷ 1 ∷ 2 ∷ []; count = 3; splits = 2; irregular = [] }
+one_slot = record { drawing = record { start = untied_slots (3, 1); edits = put 0 1 1 (Ok tt) ∷ put 0 2 1 (Err NetworkFault.Full) ∷ put 0 1 0 (Ok tt) ∷ put 0 2 1 (Ok tt) ∷ [] }; weighed = by_kinds; table = 0 ∷ 1 ∷ 2 ∷ []; count = 3; splits = 2; irregular = [] }
 
 abbrev pub known_networks : List KnownNetwork
 known_networks = two_colours ∷ own_tie ∷ short_chain ∷ long_chain ∷ one_tie ∷ teams_by_kinds ∷ teams_by_tally ∷ cycles_by_kinds ∷ cycles_by_bundles ∷ cycles_by_tally ∷ two_sides ∷ one_slot ∷ []

@@ -7,6 +7,8 @@ use measure::kinds::Kinds;
 use network::faults::Fault as NetworkFault;
 use network::interface::Editable;
 use network::matrix::Matrix;
+use network::slot::Slot;
+use network::slot_list::SlotList;
 use network::two_mode::TwoMode;
 use question::faults::Fault as QuestionFault;
 use question::line::Line;
@@ -118,6 +120,27 @@ fn a_put_after_settling_is_taken_once_the_session_is_open_again(
     let mut areas = [[]; 9];
     let mut exchanges = lent(heap, &calls, &mut areas)?;
     let settled = drive(matrix(heap, 3)?, Kinds, &mut exchanges);
+    assert_told(&rt, &exchanges, &calls);
+    assert_eq!(rt; vet(settled.network(), &Kinds, settled.table()), Ok(None));
+    Ok(())
+}
+
+#[test]
+fn a_list_with_one_slot_takes_one_pair_at_a_time(rt: HostRuntime) -> Result<(), Fail> {
+    let heap = rt.alloc();
+    let network = SlotList::new(3, vec![in heap; Slot::Free; 1]?);
+    let calls = [
+        (Call::Put(0, 1, 1), Reply::Put(Ok(()))),
+        (Call::Put(0, 2, 1), Reply::Put(Err(NetworkFault::Full))),
+        (Call::Put(0, 1, 0), Reply::Put(Ok(()))),
+        (Call::Put(0, 2, 1), Reply::Put(Ok(()))),
+        (Call::Settle, Reply::Settled),
+        (Call::Roles, Reply::Roles(3)),
+        (Call::Splits, Reply::Splits(2)),
+    ];
+    let mut areas = [[]; 7];
+    let mut exchanges = lent(heap, &calls, &mut areas)?;
+    let settled = drive(network, Kinds, &mut exchanges);
     assert_told(&rt, &exchanges, &calls);
     assert_eq!(rt; vet(settled.network(), &Kinds, settled.table()), Ok(None));
     Ok(())

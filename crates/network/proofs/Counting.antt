@@ -1,5 +1,5 @@
 -- Laws and bounds of sums and counts over the numbers below n. Assumes nothing.
-use Rattle.std.proofs.Common.{◌≡◌, ℕ, zero, suc, ◌+◌, ◌-◌, ◌*◌, ◌<◌, ◌≤◌, Bool, true, false, cond, not, ◌&&◌, eqb, sym, refl, ap, ◌∙◌, inl, inr, add-zero, add-suc, suc-mul, arith}
+use Rattle.std.proofs.Common.{◌≡◌, ℕ, zero, suc, ◌+◌, ◌-◌, ◌*◌, ◌<◌, ◌≤◌, Bool, true, false, cond, not, ◌&&◌, eqb, refl, ap, ◌∙◌, inl, inr, add-zero, add-suc, suc-mul, arith}
 use Rattle.std.proofs.lemmas.Bool.{cases_Bool, cases_lt, cases_eq}
 use Rattle.std.proofs.lemmas.Bool.Decides.{nat_tests}
 use Rattle.network.specs.Meaning.{sum_below, count_below}
@@ -71,24 +71,28 @@ count_below_lt p n i l e =
 same_one : (a b : Bool) → a ≡ b → ◌≡◌ {A = ℕ} (cond a 1 0) (cond b 1 0)
 same_one a b e = ap {B = ℕ} (λ t. cond t 1 0) e
 
+pub sum_below_same : (f g : ℕ → ℕ) (n : ℕ) → ((k : ℕ) → k < n → f k ≡ g k) → sum_below f n ≡ sum_below g n
+sum_below_same f g zero h = refl
+sum_below_same f g (suc n) h = omega (arith, sum_below_same f g n (λ k l. h k (omega arith)), h n (omega arith))
+
 pub count_below_same : (p q : ℕ → Bool) (n : ℕ) → ((k : ℕ) → k < n → p k ≡ q k) → count_below p n ≡ count_below q n
-count_below_same p q zero h = refl
-count_below_same p q (suc n) h =
-    omega (arith, count_below_same p q n (λ k l. h k (omega arith)), same_one (p n) (q n) (h n (omega arith)))
+count_below_same p q n h = sum_below_same (λ k. cond (p k) 1 0) (λ k. cond (q k) 1 0) n (λ k l. same_one (p k) (q k) (h k l))
+
+-- the summand at x is one more, and every other the same
+pub sum_below_more : (f g : ℕ → ℕ) (n x : ℕ) → x < n → g x ≡ f x + 1 → ((k : ℕ) → (k ≡ x → ⊥) → f k ≡ g k) → sum_below g n ≡ sum_below f n + 1
+sum_below_more f g zero x l more h = omega arith
+sum_below_more f g (suc n) x l more h =
+    elim (cases_lt x n) [
+      | inl below ↦ omega (arith, sum_below_more f g n x below more h, h n (λ e. omega arith))
+      | inr above ↦
+          let e : x ≡ n = omega arith in
+          omega (arith, sum_below_same f g n (λ k l. h k (λ d. omega arith)), rw e at more)
+    ]
 
 -- x passes q and not p, and every other passes both or neither
 pub count_below_more : (p q : ℕ → Bool) (n x : ℕ) → x < n → p x ≡ false → q x ≡ true → ((k : ℕ) → (k ≡ x → ⊥) → p k ≡ q k) → count_below q n ≡ count_below p n + 1
-count_below_more p q zero x l out within h = omega arith
-count_below_more p q (suc n) x l out within h =
-    elim (cases_lt x n) [
-      | inl below ↦
-          omega (arith, count_below_more p q n x below out within h, same_one (p n) (q n) (h n (λ e. omega arith)))
-      | inr above ↦
-          let e : x ≡ n = omega arith in
-          let none = same_one (p n) false (ap p (sym e) ∙ out) in
-          let gain = same_one (q n) true (ap q (sym e) ∙ within) in
-          omega (arith, count_below_same p q n (λ k l. h k (λ d. omega arith)), none, gain)
-    ]
+count_below_more p q n x l out within h =
+    sum_below_more (λ k. cond (p k) 1 0) (λ k. cond (q k) 1 0) n x l (rw (out, within) refl) (λ k ne. same_one (p k) (q k) (h k ne))
 
 -- the numbers that pass p go to numbers that pass q, no two to one
 pub count_below_inject :

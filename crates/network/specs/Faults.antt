@@ -16,7 +16,7 @@ layer f = Layer.Network
 
 abbrev pub said : Fault → List ℕ
 said Size = codes "not 1 to 128 nodes, or a side without nodes"
-said Memory = codes "too little memory"
+said Memory = codes "too little memory, or more than 1,024 slots"
 said Node = codes "no such node"
 said Pair = codes "a pair that is not allowed"
 said Full = codes "as many tied pairs as the cap allows"

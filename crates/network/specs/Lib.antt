@@ -6,3 +6,6 @@ pub mod Matrices
 pub mod TwoModes
 pub mod LayoutLaws
 pub mod Layers
+pub mod Slots
+pub mod Listed
+pub mod SlotLists

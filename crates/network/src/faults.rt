@@ -20,7 +20,7 @@ pub enum Layer {
 pub enum Fault {
     // There are not 1 to 128 nodes, or a side has none.
     Size = 1,
-    // The memory handed to the making is too short.
+    // The memory handed to the making is too short, or has more than 1,024 slots.
     Memory = 2,
     // A node that is named is not below the number of nodes.
     Node = 3,
@@ -50,7 +50,7 @@ impl fmt::Display for Fault {
     fn fmt<W: fmt::Write>(&self, f: &mut fmt::Formatter<W>) -> fmt::Result {
         f.write_str(match self {
             Fault::Size => "not 1 to 128 nodes, or a side without nodes",
-            Fault::Memory => "too little memory",
+            Fault::Memory => "too little memory, or more than 1,024 slots",
             Fault::Node => "no such node",
             Fault::Pair => "a pair that is not allowed",
             Fault::Full => "as many tied pairs as the cap allows",

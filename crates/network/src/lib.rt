@@ -12,6 +12,10 @@ mod grid;
 pub mod matrix;
 // Ties from one side to the other.
 pub mod two_mode;
+// What a slot holds.
+pub mod slot;
+// Every pair allowed, a slot for each tied pair.
+pub mod slot_list;
 // Every tie of the network below the other way round.
 pub mod turned;
 // The network below without new ties from a node to itself.

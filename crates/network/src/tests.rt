@@ -3,7 +3,7 @@ use super::faults::{Fault, Layer};
 
 mod layers;
 mod matrix;
-mod no_room;
+mod slot_list;
 mod two_mode;
 
 #[test]

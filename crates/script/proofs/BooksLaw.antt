@@ -8,6 +8,7 @@ use Rattle.std.specs.Prelude.{fold}
 use Rattle.std.proofs.lemmas.Bool.Decides.{nat_tests}
 use Rattle.std.proofs.lemmas.List.Elements.{All-nil, All-cons}
 use Rattle.std.proofs.lemmas.Nat.{mul-le}
+use Rattle.network.specs.Listed.{untied_slots}
 use Rattle.network.specs.Matrices.{untied}
 use Rattle.network.specs.TwoModes.{untied_sides}
 use Rattle.network.specs.Meaning.{Meaning}
@@ -21,7 +22,7 @@ use Rattle.driving.specs.declared.call.Call.{Call}
 use Rattle.driving.proofs.Turning.{book_same}
 use Rattle.script.specs.BooksLaw.{Names, Chooses, Silent, First, edit, edits, fed, drafted, asked, Story, BooksLaw}
 use Rattle.script.specs.Drafts.{add_answer, lines_after}
-use Rattle.script.specs.Networks.{enough, matrix_named, two_mode_named}
+use Rattle.script.specs.Networks.{enough, list_named, matrix_named, two_mode_named}
 use Rattle.script.specs.Records.{Said, parse}
 use Rattle.script.specs.Stages.{Phase, Outcome, named, does, outcome, next_phase}
 use Rattle.script.specs.Transcripts.{Played, blank, play}
@@ -186,9 +187,28 @@ two_mode_turned a b = by_test (ltb 0 a && (ltb 0 b && leb (a + b) 128)) refl
         let made : two_mode_named a b enough ≡ Err network.Fault.Size = rw (e, two_mode_named) refl in
         subst (Made (Said.TwoMode a b)) (sym made) (λ m names. grind (arith, nat_tests, names))
 
+slots_turned : (n s : ℕ) → Turned (Ok (Said.Slots n s)) (turn Phase.Network (Ok (Said.Slots n s)))
+slots_turned n s = by_tests (ltb 0 n && leb n 128) (ltb 0 s && leb s 1024) refl refl
+  where
+    by_tests : (sized fits : Bool) → (ltb 0 n && leb n 128) ≡ sized → (ltb 0 s && leb s 1024) ≡ fits → Made (Said.Slots n s) (list_named n s)
+    by_tests true true e f =
+        let some : 0 < n = grind (arith, nat_tests) in
+        let few : n ≤ 128 = grind (arith, nat_tests) in
+        let any : 0 < s = grind (arith, nat_tests) in
+        let held : s ≤ 1024 = grind (arith, nat_tests) in
+        let made : list_named n s ≡ Ok (untied_slots (n, s)) = rw (e, f, list_named) refl in
+        subst (Made (Said.Slots n s)) (sym made) (refl, some, few, any, held)
+    by_tests true false e f =
+        let made : list_named n s ≡ Err network.Fault.Memory = rw (e, f, list_named) refl in
+        subst (Made (Said.Slots n s)) (sym made) (λ m names. grind (arith, nat_tests, names))
+    by_tests false fits e f =
+        let made : list_named n s ≡ Err network.Fault.Size = rw (e, list_named) refl in
+        subst (Made (Said.Slots n s)) (sym made) (λ m names. grind (arith, nat_tests, names))
+
 turned : (said : Result Said Reason) → Turned said (turn Phase.Network said)
 turned (Ok (Said.Matrix n)) = matrix_turned n
 turned (Ok (Said.TwoMode a b)) = two_mode_turned a b
+turned (Ok (Said.Slots n s)) = slots_turned n s
 turned (Ok other) = λ m none. none
 turned (Err why) = λ m none. none
 

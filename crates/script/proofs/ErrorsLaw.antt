@@ -19,6 +19,7 @@ spares = record { settled = λ rest. refl; node = λ rest. refl; answer = λ res
 copy_quiet : (told : Result Said Reason) → filter is_error (copied told) ≡ []
 copy_quiet (Ok (Said.Matrix n)) = refl
 copy_quiet (Ok (Said.TwoMode a b)) = refl
+copy_quiet (Ok (Said.Slots n s)) = refl
 copy_quiet (Ok Said.Kinds) = refl
 copy_quiet (Ok Said.Bundles) = refl
 copy_quiet (Ok Said.Tally) = refl

@@ -19,7 +19,7 @@ use Rattle.network.specs.Put.{put_answer}
 use Rattle.session.specs.Sessions.{colour_answer}
 use Rattle.driving.specs.Book.{Book, after_put, after_colour}
 use Rattle.script.specs.Drafts.{add_answer}
-use Rattle.script.specs.Networks.{enough, matrix_named, two_mode_named}
+use Rattle.script.specs.Networks.{enough, list_named, matrix_named, two_mode_named}
 use Rattle.script.specs.Faults.{number}
 use Rattle.script.specs.FormsLaw.{Printed, shown, IsLine, InForms, FormsLaw}
 use Rattle.script.specs.Listings.{each_below, heads, role_total, split_total, settled_lines, is_true, true_lines, go_lines}
@@ -147,6 +147,7 @@ does_printed : (phase : Phase) (said : Said) → Sayable said → InForms (print
 does_printed phase (Said.Remark text) i = remark_printed text i
 does_printed Phase.Network (Said.Matrix n) i = quiet (matrix_named n enough) Phase.Measure Reason.Network
 does_printed Phase.Network (Said.TwoMode a b) i = quiet (two_mode_named a b enough) Phase.Measure Reason.Network
+does_printed Phase.Network (Said.Slots n s) i = quiet (list_named n s) Phase.Measure Reason.Network
 does_printed (Phase.Measure m) Said.Kinds i = none_printed
 does_printed (Phase.Measure m) Said.Bundles i = none_printed
 does_printed (Phase.Measure m) Said.Tally i = none_printed

@@ -29,7 +29,7 @@ use Rattle.script.specs.Drafts.{add_answer}
 use Rattle.script.specs.ErrorsLaw.{error_text}
 use Rattle.script.specs.Faults.{number}
 use Rattle.script.specs.Listings.{each_below, heads, role_total, split_total, settled_lines, is_true, true_lines, go_lines}
-use Rattle.script.specs.Networks.{enough, matrix_named, two_mode_named}
+use Rattle.script.specs.Networks.{enough, list_named, matrix_named, two_mode_named}
 use Rattle.script.specs.RecordLaw.{written}
 use Rattle.script.specs.Records.{Said, parse}
 use Rattle.script.specs.Stages.{Phase, Outcome, named, does, outcome}
@@ -222,6 +222,7 @@ module _ (test : List ℕ → Bool) where
     copies_does phase (Said.Remark text) plain = picks_line (codes "RM" ++ text) plain
     copies_does Phase.Network (Said.Matrix n) plain = quiet_named (matrix_named n enough)
     copies_does Phase.Network (Said.TwoMode a b) plain = quiet_named (two_mode_named a b enough)
+    copies_does Phase.Network (Said.Slots n s) plain = quiet_named (list_named n s)
     copies_does Phase.Network Said.Kinds plain = tt
     copies_does Phase.Network Said.Bundles plain = tt
     copies_does Phase.Network Said.Tally plain = tt
@@ -231,6 +232,7 @@ module _ (test : List ℕ → Bool) where
     copies_does Phase.Network Said.Go plain = tt
     copies_does (Phase.Measure m) (Said.Matrix n) plain = tt
     copies_does (Phase.Measure m) (Said.TwoMode a b) plain = tt
+    copies_does (Phase.Measure m) (Said.Slots n s) plain = tt
     copies_does (Phase.Measure m) Said.Kinds plain = picks_none
     copies_does (Phase.Measure m) Said.Bundles plain = picks_none
     copies_does (Phase.Measure m) Said.Tally plain = picks_none
@@ -240,6 +242,7 @@ module _ (test : List ℕ → Bool) where
     copies_does (Phase.Measure m) Said.Go plain = tt
     copies_does (Phase.Work by book lines) (Said.Matrix n) plain = tt
     copies_does (Phase.Work by book lines) (Said.TwoMode a b) plain = tt
+    copies_does (Phase.Work by book lines) (Said.Slots n s) plain = tt
     copies_does (Phase.Work by book lines) Said.Kinds plain = tt
     copies_does (Phase.Work by book lines) Said.Bundles plain = tt
     copies_does (Phase.Work by book lines) Said.Tally plain = tt

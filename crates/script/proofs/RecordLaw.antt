@@ -155,6 +155,9 @@ matrix = Number (λ n. End (Said.Matrix n))
 abbrev two_mode : Form
 two_mode = Number (λ a. Number (λ b. End (Said.TwoMode a b)))
 
+abbrev slots : Form
+slots = Number (λ n. Number (λ s. End (Said.Slots n s)))
+
 abbrev put : Form
 put = Number (λ i. Number (λ j. Byte (λ b. End (Said.Put i j b))))
 
@@ -180,6 +183,7 @@ abbrev pub marks : List Mark
 marks =
     record { first = 78; second = 77; form = matrix; sound = λ n l. (refl, l) }
     ∷ record { first = 78; second = 84; form = two_mode; sound = λ a la b lb. (refl, (la, lb)) }
+    ∷ record { first = 78; second = 76; form = slots; sound = λ n ln s ls. (refl, (ln, ls)) }
     ∷ record { first = 77; second = 75; form = End Said.Kinds; sound = (refl, tt) }
     ∷ record { first = 77; second = 66; form = End Said.Bundles; sound = (refl, tt) }
     ∷ record { first = 77; second = 84; form = End Said.Tally; sound = (refl, tt) }
@@ -219,6 +223,7 @@ claim_line_written (Tied k t) = refl
 written_reads : (said : Said) → InBounds said → parse (written said) ≡ Ok said
 written_reads (Said.Matrix n) l = marked 78 77 matrix (n ∷ []) (Said.Matrix n) refl (l, refl)
 written_reads (Said.TwoMode a b) (la, lb) = marked 78 84 two_mode (a ∷ b ∷ []) (Said.TwoMode a b) refl (la, (lb, refl))
+written_reads (Said.Slots n s) (ln, ls) = marked 78 76 slots (n ∷ s ∷ []) (Said.Slots n s) refl (ln, (ls, refl))
 written_reads Said.Kinds l = refl
 written_reads Said.Bundles l = refl
 written_reads Said.Tally l = refl

@@ -17,7 +17,7 @@ use Rattle.session.specs.Sessions.{colour_answer}
 use Rattle.session.specs.declared.faults.Fault as session
 use Rattle.driving.specs.Book.{after_put, after_colour}
 use Rattle.script.specs.Drafts.{add_answer}
-use Rattle.script.specs.Networks.{enough, matrix_named, two_mode_named}
+use Rattle.script.specs.Networks.{enough, list_named, matrix_named, two_mode_named}
 use Rattle.script.specs.Records.{Said, parse}
 use Rattle.script.specs.Stages.{Phase, Outcome, named, does, outcome}
 use Rattle.script.specs.RefusedLaw.{Refused, Accepted, RefusedLaw, belongs, StageLaw, OrderLaw}
@@ -82,6 +82,7 @@ decided : (phase : Phase) (said : Said) → Decided (belongs said phase) (does p
 decided phase (Said.Remark text) = tt
 decided Phase.Network (Said.Matrix n) = named_deep (matrix_named n enough)
 decided Phase.Network (Said.TwoMode a b) = named_deep (two_mode_named a b enough)
+decided Phase.Network (Said.Slots n s) = named_deep (list_named n s)
 decided Phase.Network Said.Kinds = refl
 decided Phase.Network Said.Bundles = refl
 decided Phase.Network Said.Tally = refl
@@ -91,6 +92,7 @@ decided Phase.Network (Said.Question line) = refl
 decided Phase.Network Said.Go = refl
 decided (Phase.Measure m) (Said.Matrix n) = refl
 decided (Phase.Measure m) (Said.TwoMode a b) = refl
+decided (Phase.Measure m) (Said.Slots n s) = refl
 decided (Phase.Measure m) Said.Kinds = tt
 decided (Phase.Measure m) Said.Bundles = tt
 decided (Phase.Measure m) Said.Tally = tt
@@ -100,6 +102,7 @@ decided (Phase.Measure m) (Said.Question line) = refl
 decided (Phase.Measure m) Said.Go = refl
 decided (Phase.Work by book lines) (Said.Matrix n) = refl
 decided (Phase.Work by book lines) (Said.TwoMode a b) = refl
+decided (Phase.Work by book lines) (Said.Slots n s) = refl
 decided (Phase.Work by book lines) Said.Kinds = refl
 decided (Phase.Work by book lines) Said.Bundles = refl
 decided (Phase.Work by book lines) Said.Tally = refl

@@ -30,6 +30,7 @@ claim_copied None = refl
 written_copied : (said : Said) → filter is_remark (written said ∷ []) ≡ filter is_remark (copied (Ok said))
 written_copied (Said.Matrix n) = refl
 written_copied (Said.TwoMode a b) = refl
+written_copied (Said.Slots n s) = refl
 written_copied Said.Kinds = refl
 written_copied Said.Bundles = refl
 written_copied Said.Tally = refl
@@ -60,6 +61,7 @@ line_copied line (Err why) is = by_test (is_remark line) refl
 refused_copied : (phase : Phase) (told : Result Said Reason) (why : Reason) → acted phase told ≡ Err why → copied told ≡ []
 refused_copied phase (Ok (Said.Matrix n)) why is = refl
 refused_copied phase (Ok (Said.TwoMode a b)) why is = refl
+refused_copied phase (Ok (Said.Slots n s)) why is = refl
 refused_copied phase (Ok Said.Kinds) why is = refl
 refused_copied phase (Ok Said.Bundles) why is = refl
 refused_copied phase (Ok Said.Tally) why is = refl

@@ -2,6 +2,7 @@
 use Rattle.std.proofs.Common.{◌≡◌, ℕ, ◌+◌, ◌*◌, ◌≤◌, Bool, true, false, cond, ◌&&◌, leb, ltb, List, [], ◌∷◌, ◌++◌, Result, Ok, Err, refl, ap, ◌∙◌, rules, arith}
 use Rattle.std.proofs.lemmas.Bool.Decides.{nat_tests}
 use Rattle.std.proofs.lemmas.Nat.{mul-le}
+use Rattle.network.specs.Listed.{untied_slots}
 use Rattle.network.specs.Meaning.{Meaning}
 use Rattle.network.specs.Put.{put_answer}
 use Rattle.network.specs.declared.faults.Fault as network
@@ -33,6 +34,13 @@ by_size m true true room = refl
 by_size m true false room = absurd (let e = room refl in search rules)
 by_size m false fits room = refl
 
+-- a list is refused for its nodes first, and then for its slots
+by_slots : (m : Meaning) (small fits : Bool)
+    → answer_in (named (elim (cond small (cond fits (Ok (tt {0})) (Err network.Fault.Memory)) (Err network.Fault.Size)) [ Ok _ ↦ Ok m | Err f ↦ Err f ])) ≡ cond small (cond fits (Ok tt) (Err (Reason.Network network.Fault.Memory))) (Err (Reason.Network network.Fault.Size))
+by_slots m true true = refl
+by_slots m true false = refl
+by_slots m false fits = refl
+
 before_work : (phase : Phase) (said : Said) → belongs said phase ≡ true → at_work phase ≡ false → answer_in (does phase said) ≡ sized said
 before_work phase (Said.Remark text) here off = refl
 before_work Phase.Network (Said.Matrix n) here off = by_size (untied n) (ltb 0 n && leb n 128) (leb (n * n) enough) (λ e. let l : n ≤ 128 = grind (arith, nat_tests) in grind (arith, nat_tests, mul-le n n 128 128 l l))
@@ -41,6 +49,7 @@ before_work Phase.Network (Said.TwoMode a b) here off =
     (λ e.
     let both : a + b ≤ 128 = grind (arith, nat_tests) in
     grind (arith, nat_tests, mul-le a b 128 128 (omega arith) (omega arith)))
+before_work Phase.Network (Said.Slots n s) here off = by_slots (untied_slots (n, s)) (ltb 0 n && leb n 128) (ltb 0 s && leb s 1024)
 before_work (Phase.Measure m) Said.Kinds here off = refl
 before_work (Phase.Measure m) Said.Bundles here off = refl
 before_work (Phase.Measure m) Said.Tally here off = refl

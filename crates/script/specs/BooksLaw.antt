@@ -1,6 +1,6 @@
 -- What a script has named and told so far, by its records. Assumes nothing.
 --
---   Names        the record names this network without ties: a matrix of 1 to 128 nodes, or a node on each side and at most 128 in all
+--   Names        the record names this network without ties: a matrix of 1 to 128 nodes, a node on each side and at most 128 in all, or a list of 1 to 128 nodes and 1 to 1,024 slots
 --   Chooses      the record chooses this measure
 --   Silent       none of the records says a thing of this sort
 --   First        the first record that does says x, and these records stand behind it
@@ -16,6 +16,7 @@
 -- A record is given as what its bytes say, or as the refusal of its bytes.
 use Rattle.std.specs.Prelude.{◌≡◌, ◌<◌, ◌≤◌, ℕ, ◌+◌, List, [], ◌∷◌, ◌++◌, fold, Result, Ok}
 use Rattle.std.specs.List.{All, flat_map}
+use Rattle.network.specs.Listed.{untied_slots}
 use Rattle.network.specs.Matrices.{untied}
 use Rattle.network.specs.Meaning.{Meaning}
 use Rattle.network.specs.TwoModes.{untied_sides}
@@ -33,6 +34,7 @@ use Rattle.script.specs.declared.faults.Reason.{Reason}
 abbrev pub Names : Result Said Reason → Meaning → Type 0
 Names (Ok (Said.Matrix n)) m = (m ≡ untied n) × (0 < n) × (n ≤ 128)
 Names (Ok (Said.TwoMode a b)) m = (m ≡ untied_sides (a, b)) × (0 < a) × (0 < b) × (a + b ≤ 128)
+Names (Ok (Said.Slots n s)) m = (m ≡ untied_slots (n, s)) × (0 < n) × (n ≤ 128) × (0 < s) × (s ≤ 1024)
 Names other m = ⊥
 
 abbrev pub Chooses : Result Said Reason → Chosen → Type 0

@@ -2,20 +2,24 @@
 --
 --   meant             what a network means whose kind the script chose
 --   meant_in          the same, where it is made
---   enough            bytes enough for any network
+--   enough            bytes enough for any network that keeps bytes
 --   matrix_named      a matrix of n nodes without ties, or its refusal
 --   two_mode_named    sides of a and b nodes without ties, or their refusal
+--   list_named        a list of n nodes and s slots without ties, or its refusal
 use Rattle.std.specs.Prelude.{ℕ, Result, Ok, Err}
+use Rattle.network.specs.Listed.{list_check, untied_slots}
 use Rattle.network.specs.Matrices.{matrix_check, matrix_of, untied}
 use Rattle.network.specs.Meaning.{Meaning}
+use Rattle.network.specs.SlotLists.{ties_of}
 use Rattle.network.specs.TwoModes.{two_mode_check, two_mode_of, untied_sides}
 use Rattle.network.specs.declared.faults.Fault.{Fault}
 use Rattle.script.specs.declared.any_network.AnyNetwork.{AnyNetwork}
-use Rattle.script.specs.declared.any_network.AnyNetwork.TheVariants.{OneMode, TwoMode}
+use Rattle.script.specs.declared.any_network.AnyNetwork.TheVariants.{OneMode, TwoMode, Slots}
 
 abbrev pub meant : AnyNetwork → Meaning
 meant (OneMode g) = matrix_of g.shape.n g.bytes.items
 meant (TwoMode g) = two_mode_of g.shape.a g.shape.b g.bytes.items
+meant (Slots l) = ties_of l
 
 abbrev pub meant_in : Result AnyNetwork Fault → Result Meaning Fault
 meant_in (Ok network) = Ok (meant network)
@@ -30,3 +34,6 @@ matrix_named n bytes = elim (matrix_check n bytes) [ Ok _ ↦ Ok (untied n) | Er
 
 abbrev pub two_mode_named : ℕ → ℕ → ℕ → Result Meaning Fault
 two_mode_named a b bytes = elim (two_mode_check a b bytes) [ Ok _ ↦ Ok (untied_sides (a, b)) | Err f ↦ Err f ]
+
+abbrev pub list_named : ℕ → ℕ → Result Meaning Fault
+list_named n s = elim (list_check n s) [ Ok _ ↦ Ok (untied_slots (n, s)) | Err f ↦ Err f ]

@@ -34,6 +34,7 @@ claim_written (Tied k t) = codes "QT" ++ spaced (k ∷ t ∷ [])
 abbrev pub written : Said → List ℕ
 written (Said.Matrix n) = codes "NM" ++ spaced (n ∷ [])
 written (Said.TwoMode a b) = codes "NT" ++ spaced (a ∷ b ∷ [])
+written (Said.Slots n s) = codes "NL" ++ spaced (n ∷ s ∷ [])
 written Said.Kinds = codes "MK"
 written Said.Bundles = codes "MB"
 written Said.Tally = codes "MT"
@@ -52,6 +53,7 @@ ClaimInBounds (Tied k t) = (k < 65536) × (t < 256)
 abbrev pub InBounds : Said → Type 0
 InBounds (Said.Matrix n) = n < 65536
 InBounds (Said.TwoMode a b) = (a < 65536) × (b < 65536)
+InBounds (Said.Slots n s) = (n < 65536) × (s < 65536)
 InBounds Said.Kinds = Unit {0}
 InBounds Said.Bundles = Unit {0}
 InBounds Said.Tally = Unit {0}

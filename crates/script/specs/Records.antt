@@ -21,6 +21,7 @@ use Rattle.script.specs.declared.record.Record.TheVariants as variant
 pub data Said : Type 0 where
   Matrix : ℕ → Said
   TwoMode : ℕ → ℕ → Said
+  Slots : ℕ → ℕ → Said
   Kinds : Said
   Bundles : Said
   Tally : Said
@@ -33,6 +34,7 @@ pub data Said : Type 0 where
 abbrev pub said_in : Record → Said
 said_in (variant.Matrix n) = Said.Matrix n
 said_in (variant.TwoMode a b) = Said.TwoMode a b
+said_in (variant.Slots n s) = Said.Slots n s
 said_in variant.Kinds = Said.Kinds
 said_in variant.Bundles = Said.Bundles
 said_in variant.Tally = Said.Tally
@@ -63,6 +65,9 @@ parse_matrix bytes = after bytes (λ n. ended (Said.Matrix n))
 abbrev pub parse_two_mode : List ℕ → Result Said Reason
 parse_two_mode bytes = after bytes (λ a bytes. after bytes (λ b. ended (Said.TwoMode a b)))
 
+abbrev pub parse_slots : List ℕ → Result Said Reason
+parse_slots bytes = after bytes (λ n bytes. after bytes (λ s. ended (Said.Slots n s)))
+
 abbrev pub parse_put : List ℕ → Result Said Reason
 parse_put bytes = after bytes (λ i bytes. after bytes (λ j bytes. after_byte bytes (λ b. ended (Said.Put i j b))))
 
@@ -90,6 +95,7 @@ parse text =
     cond (nat_lt (length text) 2) (Err Reason.Mark)
     (cond (is_mark (codes "NM") text) (parse_matrix bytes)
     (cond (is_mark (codes "NT") text) (parse_two_mode bytes)
+    (cond (is_mark (codes "NL") text) (parse_slots bytes)
     (cond (is_mark (codes "MK") text) (ended Said.Kinds bytes)
     (cond (is_mark (codes "MB") text) (ended Said.Bundles bytes)
     (cond (is_mark (codes "MT") text) (ended Said.Tally bytes)
@@ -101,4 +107,4 @@ parse text =
     (cond (is_mark (codes "QT") text) (parse_tied bytes)
     (cond (is_mark (codes "GO") text) (ended Said.Go bytes)
     (cond (is_mark (codes "RM") text) (Ok (Said.Remark bytes))
-    (Err Reason.Mark))))))))))))))
+    (Err Reason.Mark)))))))))))))))

@@ -52,6 +52,7 @@ at_work (Phase.Work by book lines) = true
 abbrev pub belongs : Said → Phase → Bool
 belongs (Said.Matrix n) = at_network
 belongs (Said.TwoMode a b) = at_network
+belongs (Said.Slots n s) = at_network
 belongs Said.Kinds = at_measure
 belongs Said.Bundles = at_measure
 belongs Said.Tally = at_measure

@@ -19,7 +19,7 @@ use Rattle.question.specs.declared.line.Line.{Line}
 use Rattle.session.specs.Sessions.{colour_answer}
 use Rattle.driving.specs.Book.{Book, opened, after_put, after_colour}
 use Rattle.script.specs.Drafts.{add_answer}
-use Rattle.script.specs.Networks.{enough, matrix_named, meant, two_mode_named}
+use Rattle.script.specs.Networks.{enough, list_named, matrix_named, meant, two_mode_named}
 use Rattle.script.specs.Records.{Said, parse}
 use Rattle.script.specs.Words.{remark_line}
 use Rattle.script.specs.Works.{Chosen, book_of, go_by, measure_of}
@@ -54,6 +54,7 @@ abbrev pub does : Phase → Said → Outcome
 does phase (Said.Remark text) = Ok (phase, remark_line text)
 does Phase.Network (Said.Matrix n) = named (matrix_named n enough)
 does Phase.Network (Said.TwoMode a b) = named (two_mode_named a b enough)
+does Phase.Network (Said.Slots n s) = named (list_named n s)
 does (Phase.Measure m) Said.Kinds = chosen m Chosen.Kinds
 does (Phase.Measure m) Said.Bundles = chosen m Chosen.Bundles
 does (Phase.Measure m) Said.Tally = chosen m Chosen.Tally

@@ -1,14 +1,14 @@
 -- Which records are accepted, and why the others are refused. Assumes nothing.
 --
 --   held          the answer of a part below, with its fault held whole
---   sized         before the work: a network by its number of nodes, and every other record is accepted
+--   sized         before the work: a network by its number of nodes, and a list by its slots too, and every other record is accepted
 --   verdict       at the work: a put, a colour and a question line by a book and the question so far, and every other record is accepted
 --   Judged        by the book of the edits since, and the lines that were accepted since the last GO
 --   VerdictLaw    so is each record that belongs to its stage
 use Rattle.std.specs.Prelude.{◌≡◌, ℕ, ◌+◌, true, false, cond, ◌&&◌, nat_le, nat_lt, List, fold, Result, Ok, Err}
 use Rattle.network.specs.Meaning.{Meaning}
 use Rattle.network.specs.Put.{put_answer}
-use Rattle.network.specs.declared.faults.Fault.TheVariants.{Size}
+use Rattle.network.specs.declared.faults.Fault.TheVariants.{Memory, Size}
 use Rattle.question.specs.declared.line.Line.{Line}
 use Rattle.session.specs.Sessions.{colour_answer}
 use Rattle.driving.specs.Book.{Book}
@@ -30,6 +30,8 @@ held reason answer = elim answer [ Ok _ ↦ Ok tt | Err f ↦ Err (reason f) ]
 abbrev pub sized : Said → Answer
 sized (Said.Matrix n) = cond (nat_lt 0 n && nat_le n 128) (Ok tt) (Err (Reason.Network Size))
 sized (Said.TwoMode a b) = cond (nat_lt 0 a && (nat_lt 0 b && nat_le (a + b) 128)) (Ok tt) (Err (Reason.Network Size))
+sized (Said.Slots n s) =
+    cond (nat_lt 0 n && nat_le n 128) (cond (nat_lt 0 s && nat_le s 1024) (Ok tt) (Err (Reason.Network Memory))) (Err (Reason.Network Size))
 sized other = Ok tt
 
 abbrev pub verdict : Book → List Line → Said → Answer

@@ -1,11 +1,14 @@
 // A network whose kind the script chooses.
 ghost use Rattle.std.specs.Prelude.{◌≡◌, IfOk, vec_len};
 ghost use Rattle.network.specs.Put.{put_after, put_answer};
-ghost use Rattle.script.specs.Networks.{enough, matrix_named, meant, meant_in, two_mode_named};
+ghost use Rattle.script.specs.Networks.{enough, list_named, matrix_named, meant, meant_in};
+ghost use Rattle.script.specs.Networks.{two_mode_named};
 
 use network::faults::Fault;
 use network::interface::{Editable, Readable};
 use network::matrix::Matrix;
+use network::slot::Slot;
+use network::slot_list::SlotList;
 use network::two_mode::TwoMode;
 use std::alloc::{AllocError, Global};
 
@@ -13,9 +16,10 @@ use std::alloc::{AllocError, Global};
 pub(crate) enum AnyNetwork {
     OneMode(Matrix),
     TwoMode(TwoMode),
+    Slots(SlotList),
 }
 
-// Bytes enough for any network.
+// Bytes enough for any network that keeps bytes.
 fn memory(heap: Global) -> Result<Vec<u8>, AllocError>
     ensures { IfOk result (λ bytes. vec_len bytes ≡ enough) }
 {
@@ -47,6 +51,23 @@ impl AnyNetwork {
         }
         Ok(Ok(AnyNetwork::TwoMode(TwoMode::new(a, b, memory(heap)?))))
     }
+
+    // The list of n nodes and s slots without ties, or the refusal of its making. Only memory can
+    // fail.
+    pub(crate) fn list(
+        n: usize,
+        s: usize,
+        heap: Global,
+    ) -> Result<Result<AnyNetwork, Fault>, AllocError>
+        ensures { IfOk result (λ network. meant_in network ≡ list_named n s) }
+    {
+        // One slot too many is refused as any more are, and takes less memory.
+        let memory = vec![in heap; Slot::Free; s.min(1025)]?;
+        match SlotList::check(n, &memory) {
+            Ok(()) => Ok(Ok(AnyNetwork::Slots(SlotList::new(n, memory)))),
+            Err(fault) => Ok(Err(fault)),
+        }
+    }
 }
 
 impl Readable for AnyNetwork {
@@ -56,6 +77,7 @@ impl Readable for AnyNetwork {
         match self {
             AnyNetwork::OneMode(network) => network.nodes(),
             AnyNetwork::TwoMode(network) => network.nodes(),
+            AnyNetwork::Slots(network) => network.nodes(),
         }
     }
 
@@ -63,6 +85,7 @@ impl Readable for AnyNetwork {
         match self {
             AnyNetwork::OneMode(network) => network.tie(i, j),
             AnyNetwork::TwoMode(network) => network.tie(i, j),
+            AnyNetwork::Slots(network) => network.tie(i, j),
         }
     }
 }
@@ -75,6 +98,7 @@ impl Editable for AnyNetwork {
         match self {
             AnyNetwork::OneMode(network) => network.put(i, j, b),
             AnyNetwork::TwoMode(network) => network.put(i, j, b),
+            AnyNetwork::Slots(network) => network.put(i, j, b),
         }
     }
 }

@@ -2,7 +2,8 @@
 ghost use Rattle.std.specs.Prelude.{◌≡◌};
 ghost use Rattle.script.specs.Records.{ended, parse, said_in, shown};
 ghost use Rattle.script.specs.Records.{parse_and, parse_colour, parse_matrix, parse_not};
-ghost use Rattle.script.specs.Records.{parse_of_colour, parse_put, parse_tied, parse_two_mode};
+ghost use Rattle.script.specs.Records.{parse_of_colour, parse_put, parse_slots, parse_tied};
+ghost use Rattle.script.specs.Records.{parse_two_mode};
 ghost use Rattle.script.specs.FieldLaw.{FieldLaw};
 ghost use Rattle.script.specs.MarkLaw.{MarkLaw};
 ghost use Rattle.script.specs.RecordLaw.{RecordLaw};
@@ -51,6 +52,19 @@ fn read_two_mode(rest: &[u8]) -> Result<Record<'_>, Reason>
         return Err(Reason::Fields);
     };
     fields.end(Record::TwoMode(a, b))
+}
+
+fn read_slots(rest: &[u8]) -> Result<Record<'_>, Reason>
+    ensures { shown result ≡ parse_slots rest.now }
+{
+    let mut fields = Fields::of(rest);
+    let Some(n) = fields.number() else {
+        return Err(Reason::Fields);
+    };
+    let Some(s) = fields.number() else {
+        return Err(Reason::Fields);
+    };
+    fields.end(Record::Slots(n, s))
 }
 
 fn read_put(rest: &[u8]) -> Result<Record<'_>, Reason>
@@ -142,6 +156,7 @@ pub fn read(line: &[u8]) -> Result<Record<'_>, Reason>
     match (first, second) {
         (b'N', b'M') => read_matrix(rest),
         (b'N', b'T') => read_two_mode(rest),
+        (b'N', b'L') => read_slots(rest),
         (b'M', b'K') => Fields::of(rest).end(Record::Kinds),
         (b'M', b'B') => Fields::of(rest).end(Record::Bundles),
         (b'M', b'T') => Fields::of(rest).end(Record::Tally),

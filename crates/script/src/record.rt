@@ -8,6 +8,8 @@ pub enum Record<'a> {
     Matrix(usize),
     /// `NT a b`: a two-mode network of a nodes on side A and b on side B.
     TwoMode(usize, usize),
+    /// `NL n s`: a list of n nodes and s slots.
+    Slots(usize, usize),
     /// `MK`: the measure kinds.
     Kinds,
     /// `MB`: the measure bundles.

@@ -53,6 +53,12 @@ impl Stage {
                     Err(fault) => Ok((Stage::Network, Err(Reason::Network(fault)))),
                 }
             }
+            (Stage::Network, Record::Slots(n, s)) => {
+                match AnyNetwork::list(n, s, heap)? {
+                    Ok(network) => Ok((Stage::Measure(network), Ok(()))),
+                    Err(fault) => Ok((Stage::Network, Err(Reason::Network(fault)))),
+                }
+            }
             (Stage::Measure(network), Record::Kinds) => {
                 Ok((Stage::Work(Work::by_kinds(network, heap)?), Ok(())))
             }

@@ -159,6 +159,31 @@ fn a_refused_node_or_pair_leaves_the_network_as_it_was(rt: HostRuntime) -> Resul
 }
 
 #[test]
+fn a_list_has_room_for_as_many_ties_as_slots(rt: HostRuntime) -> Result<(), Fail> {
+    for (script, lines) in [
+        // The second tie waits until the first is taken away.
+        (
+            "NL 3 1\nMK\nPU 0 1 1\nPU 0 2 1\nPU 0 1 0\nPU 0 2 1\nGO\n",
+            "ER 4 5\nGO 3 2\nNO 0 0\nNO 1 1\nNO 2 2\n",
+        ),
+        // Where no slot is free, a pair that is tied takes another byte, and a number that is no
+        // node is refused first.
+        (
+            "NL 2 2\nMT\nPU 0 1 1\nPU 1 0 1\nPU 0 1 255\nPU 0 0 1\nPU 0 2 1\nPU 0 0 0\nGO\n",
+            "ER 6 5\nER 7 3\nGO 1 0\nNO 0 0\nNO 1 0\n",
+        ),
+        // Nodes are asked for before slots.
+        (
+            "NL 0 0\nNL 129 1025\nNL 3 0\nNL 3 1025\nNL 3 65535\nNL 128 1024\nNL 1 1\nMB\n",
+            "ER 1 1\nER 2 1\nER 3 2\nER 4 2\nER 5 2\nER 7 14\n",
+        ),
+    ] {
+        prints(&rt, rt.alloc(), script, lines)?;
+    }
+    Ok(())
+}
+
+#[test]
 fn a_question_has_32_lines_that_name_earlier_ones(rt: HostRuntime) -> Result<(), Fail> {
     let heap = rt.alloc();
     prints(
@@ -221,8 +246,8 @@ fn a_record_that_does_not_fit_the_stage_is_refused(rt: HostRuntime) -> Result<()
 fn an_unknown_mark_is_refused(rt: HostRuntime) -> Result<(), Fail> {
     let heap = rt.alloc();
     for record in [
-        "\n", "N", "\r\n", " NM 3", "\tNM 3", "nm 3", "Nm 3", "N M 3", "NL 3", "NO 0 0", "ER 1 12",
-        "QU 1", "# 3",
+        "\n", "N", "\r\n", " NM 3", "\tNM 3", "nm 3", "Nm 3", "N M 3", "NO 0 0", "ER 1 12", "QU 1",
+        "# 3",
     ] {
         prints(&rt, heap, record, "ER 1 12\n")?;
     }
@@ -266,6 +291,8 @@ fn fields_that_are_wrong_in_number_or_form_are_refused(rt: HostRuntime) -> Resul
         "NM 3 4",
         "NT 3",
         "NT 3 2 1",
+        "NL 3",
+        "NL 3 4 5",
         "MK ",
         "MB 1",
         "MT\r",
@@ -371,37 +398,48 @@ fn a_script_of_more_than_32768_bytes_is_refused_as_a_whole(rt: HostRuntime) -> R
 #[test]
 fn each_refusal_is_told_with_its_place(rt: HostRuntime) -> Result<(), Fail> {
     let heap = rt.alloc();
-    let script = b"NM 2\nMK\nPU 0 2 1\nCO 5 1\nQN 0\nXX\nGO 1\nNM 2";
+    let script = b"NL 2 0\nNL 2 1\nMK\nPU 0 2 1\nPU 0 1 1\nPU 1 0 1\n\
+        CO 5 1\nQN 0\nXX\nGO 1\nNM 2";
     let refusals = [
         (
-            (Reason::Network(NetworkFault::Node), 3, 8),
-            (3, Layer::Network),
-            "record 3, at byte 8: no such node",
+            (Reason::Network(NetworkFault::Memory), 1, 0),
+            (2, Layer::Network),
+            "record 1, at byte 0: too little memory, or more than 1,024 slots",
         ),
         (
-            (Reason::Session(SessionFault::Node), 4, 17),
-            (3, Layer::Session),
+            (Reason::Network(NetworkFault::Node), 4, 17),
+            (3, Layer::Network),
             "record 4, at byte 17: no such node",
         ),
         (
-            (Reason::Question(QuestionFault::Later(0)), 5, 24),
+            (Reason::Network(NetworkFault::Full), 6, 35),
+            (5, Layer::Network),
+            "record 6, at byte 35: as many tied pairs as the cap allows",
+        ),
+        (
+            (Reason::Session(SessionFault::Node), 7, 44),
+            (3, Layer::Session),
+            "record 7, at byte 44: no such node",
+        ),
+        (
+            (Reason::Question(QuestionFault::Later(0)), 8, 51),
             (8, Layer::Question),
-            "record 5, at byte 24: a line that is not earlier, at line 0",
+            "record 8, at byte 51: a line that is not earlier, at line 0",
         ),
         (
-            (Reason::Mark, 6, 29),
+            (Reason::Mark, 9, 56),
             (12, Layer::Script),
-            "record 6, at byte 29: an unknown mark",
+            "record 9, at byte 56: an unknown mark",
         ),
         (
-            (Reason::Fields, 7, 32),
+            (Reason::Fields, 10, 59),
             (13, Layer::Script),
-            "record 7, at byte 32: fields that are wrong in number or form",
+            "record 10, at byte 59: fields that are wrong in number or form",
         ),
         (
-            (Reason::Stage, 8, 37),
+            (Reason::Stage, 11, 64),
             (14, Layer::Script),
-            "record 8, at byte 37: a record that does not fit the stage",
+            "record 11, at byte 64: a record that does not fit the stage",
         ),
     ];
     let mut out = Vec::new(heap);

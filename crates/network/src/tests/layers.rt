@@ -3,9 +3,10 @@ use super::super::faults::{Fault, Layer};
 use super::super::interface::{Editable, Readable};
 use super::super::matrix::Matrix;
 use super::super::no_loops::NoLoops;
+use super::super::slot::Slot;
+use super::super::slot_list::SlotList;
 use super::super::turned::Turned;
 use super::super::two_mode::TwoMode;
-use super::no_room::NoRoom;
 use std::process::Abort;
 use std::test::Fail;
 
@@ -71,8 +72,16 @@ fn refuses_in_order<N: Editable>(rt: &impl Abort, network: &mut N) {
     assert_eq!(rt; network.tie(0, 2), 0);
 }
 
+// Three nodes, and one slot, which the pair (1, 0) has.
+fn full(rt: &(impl Abort + AllocGlobal)) -> Result<SlotList, Fail> {
+    let mut network = SlotList::new(3, vec![in rt.alloc(); Slot::Free; 1]?);
+    assert_eq!(rt; network.put(1, 0, 1), Ok(()));
+    Ok(network)
+}
+
 #[test]
-fn every_refusal_comes_through_two_layers(rt: HostRuntime) {
-    refuses_in_order(&rt, &mut Turned(NoLoops(NoRoom)));
-    refuses_in_order(&rt, &mut NoLoops(Turned(NoRoom)));
+fn every_refusal_comes_through_two_layers(rt: HostRuntime) -> Result<(), Fail> {
+    refuses_in_order(&rt, &mut Turned(NoLoops(full(&rt)?)));
+    refuses_in_order(&rt, &mut NoLoops(Turned(full(&rt)?)));
+    Ok(())
 }
