@@ -84,6 +84,7 @@ fn write_begin<W: fmt::Write>(case: &Case, f: &mut fmt::Formatter<W>) -> fmt::Re
     let nodes = case.book.nodes;
     match case.shape {
         Shape::Sides(a) => writeln!(f, "NT {a} {}", nodes.saturating_sub(a))?,
+        Shape::List(slots) => writeln!(f, "NL {nodes} {slots}")?,
         Shape::Matrix | Shape::Turned | Shape::NoLoops => writeln!(f, "NM {nodes}")?,
     }
     f.write_str(match case.weighing {

@@ -9,6 +9,7 @@ use super::tables::all_tables;
 use super::totals::{WEIGHINGS, Weighing};
 use super::trouble::Trouble;
 use std::alloc::{AllocError, Global};
+use std::fmt;
 
 /// Every network of the shape with so many nodes, from every colouring by so many colours.
 #[derive(Clone, Copy)]
@@ -24,6 +25,17 @@ pub(crate) struct Counts {
     pub(crate) networks: usize,
     pub(crate) settled: usize,
     pub(crate) vetted: usize,
+}
+
+impl fmt::Display for Counts {
+    fn fmt<W: fmt::Write>(&self, f: &mut fmt::Formatter<W>) -> fmt::Result {
+        let Counts {
+            networks,
+            settled,
+            vetted,
+        } = self;
+        write!(f, "{networks} networks, {settled} settled, {vetted} vetted")
+    }
 }
 
 // What the networks of a family have in common.
@@ -111,7 +123,7 @@ impl Common {
             let Some(coarsest) = search.coarsest(colours) else {
                 return Err(case.differs(format!(in heap; "no table is coarsest of {colours:?}")));
             };
-            let settling = Settling {
+            let mut settling = Settling {
                 case: case.coloured(colours),
                 drawing,
                 coarsest,

@@ -11,6 +11,7 @@ use super::totals::Weighing;
 use super::trouble::Trouble;
 use equivalence::vetting::vet;
 use measure::interface::Measure;
+use network::faults::Fault;
 use network::interface::Editable;
 use std::alloc::{AllocError, Global};
 
@@ -180,7 +181,7 @@ fn hold_on(heap: Global, shape: Shape, known: &Known) -> Result<(), Trouble> {
     let mut table = Vec::new(heap);
     table.extend_from_slice(known.table)?;
     let regular = vec![in heap; table]?;
-    let settling = Settling {
+    let mut settling = Settling {
         case,
         drawing: &drawing,
         coarsest: known.table,
@@ -192,6 +193,8 @@ fn hold_on(heap: Global, shape: Shape, known: &Known) -> Result<(), Trouble> {
 // The shapes that can hold every tie.
 fn shapes(heap: Global, known: &Known) -> Result<Vec<Shape>, AllocError> {
     let mut shapes = vec![in heap; Shape::Matrix, Shape::Turned, Shape::NoLoops]?;
+    // A slot for each tie, and no more than a list must have.
+    shapes.push(Shape::List(known.ties.len().max(1)))?;
     for a in 1..known.nodes {
         let shape = Shape::Sides(a);
         if known.ties.iter().all(|&(i, j)| shape.allows(i, j)) {
@@ -209,7 +212,7 @@ struct Isolate {
 
 impl Trial for Isolate {
     fn run<N: Editable + Drop, M: Measure + Copy>(
-        &self,
+        &mut self,
         network: N,
         measure: M,
     ) -> Result<(), Trouble> {
@@ -229,13 +232,33 @@ fn hold_witness(heap: Global) -> Result<(), Trouble> {
         Shape::Turned,
         Shape::NoLoops,
         Shape::Sides(1),
+        Shape::List(1),
     ];
     for shape in shapes {
         let drawing = Drawing::of(heap, shape, 3, &ties(heap, &[(0, 1)])?)?;
         let case = Case::of(heap, Weighing::Kinds, &drawing);
-        run_on(&case, &drawing, &Isolate { case })?;
+        run_on(&case, &drawing, &mut Isolate { case })?;
     }
     Ok(())
+}
+
+// Three nodes and one slot, which the second put has to wait for.
+fn hold_one_slot(heap: Global) -> Result<(), Trouble> {
+    let puts = [(1, 1), (2, 1), (1, 0), (2, 1)].map(|(to, byte)| Tie { from: 0, to, byte });
+    let drawing = Drawing::of(heap, Shape::List(1), 3, &puts)?;
+    let case = Case::of(heap, Weighing::Kinds, &drawing);
+    let mut book = drawing.start;
+    let answers = [Ok(()), Err(Fault::Full), Ok(()), Ok(())];
+    for (&Tie { from, to, byte }, answer) in puts.iter().zip(answers) {
+        case.hold("a put of the model", book.put(from, to, byte), answer)?;
+    }
+    let mut settling = Settling {
+        case,
+        drawing: &drawing,
+        coarsest: &[0, 1, 2],
+        vetted: &[],
+    };
+    settling.hold()
 }
 
 /// Holds each known table on each shape.
@@ -245,9 +268,13 @@ pub(crate) fn hold_known(heap: Global) -> Result<Counts, Trouble> {
         for &shape in shapes(heap, known)?.iter() {
             hold_on(heap, shape, known)?;
             counts.settled = counts.settled.saturating_add(1);
+            counts.vetted = counts.vetted.saturating_add(1);
         }
         counts.networks = counts.networks.saturating_add(1);
     }
     hold_witness(heap)?;
+    hold_one_slot(heap)?;
+    counts.networks = counts.networks.saturating_add(1);
+    counts.settled = counts.settled.saturating_add(1);
     Ok(counts)
 }

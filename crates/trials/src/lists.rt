@@ -13,15 +13,63 @@ use super::turns::{Turn, turns};
 use driving::call::{Exchange, Reply};
 use driving::drive::drive;
 use measure::interface::Measure;
+use network::faults::Fault;
 use network::interface::{Editable, Readable};
 use session::settled::Settled;
 use std::alloc::{AllocError, Global};
+use std::fmt;
 
 /// How much was held.
 #[derive(Clone, Copy, Default)]
 pub(crate) struct Tried {
     pub(crate) lists: usize,
     pub(crate) calls: usize,
+    /// Calls that the session refused, and of these puts for which there was no room.
+    pub(crate) refused: usize,
+    pub(crate) full: usize,
+    /// Calls that the session's state did not take.
+    pub(crate) untaken: usize,
+}
+
+impl Tried {
+    fn add_list(&mut self) {
+        self.lists = self.lists.saturating_add(1);
+    }
+
+    fn add_reply(&mut self, reply: Reply) {
+        self.calls = self.calls.saturating_add(1);
+        match reply {
+            Reply::Put(Err(Fault::Full)) => {
+                self.full = self.full.saturating_add(1);
+                self.refused = self.refused.saturating_add(1);
+            }
+            Reply::Put(Err(_)) | Reply::Colour(Err(_)) | Reply::RoleOf(Err(_)) => {
+                self.refused = self.refused.saturating_add(1);
+            }
+            Reply::Role(Err(_)) | Reply::Look(Err(_)) | Reply::Ask(Err(_)) => {
+                self.refused = self.refused.saturating_add(1);
+            }
+            Reply::NotTaken => self.untaken = self.untaken.saturating_add(1),
+            _ => {}
+        }
+    }
+}
+
+impl fmt::Display for Tried {
+    fn fmt<W: fmt::Write>(&self, f: &mut fmt::Formatter<W>) -> fmt::Result {
+        let Tried {
+            lists,
+            calls,
+            refused,
+            full,
+            untaken,
+        } = self;
+        write!(
+            f,
+            "{lists} lists, {calls} calls, {refused} refused ({full} for want of room), "
+        )?;
+        write!(f, "{untaken} not taken")
+    }
 }
 
 // One list, on the network at its start.
@@ -30,6 +78,7 @@ struct Listing<'a> {
     case: Case,
     tables: &'a [Vec<u8>],
     turns: &'a [Turn],
+    tried: Tried,
 }
 
 // The areas, each as it is lent.
@@ -55,15 +104,20 @@ fn exchanges<'q, 'a>(
 }
 
 impl Listing<'_> {
-    // Replays each call.
-    fn replay(&self, replies: &[Reply], areas: &[Vec<u8>]) -> Result<Replay<'_>, Trouble> {
+    // Replays each call, and holds the session that was given back.
+    fn replay<N: Editable, M: Measure>(
+        &self,
+        replies: &[Reply],
+        areas: &[Vec<u8>],
+        settled: &Settled<N, M>,
+    ) -> Result<(), Trouble> {
         let mut replay = Replay::new(self.case, self.tables)?;
         let given = replies.iter().zip(areas.iter());
         for (turn, (&reply, area)) in self.turns.iter().zip(given) {
             replay.take(turn, reply, area)?;
         }
         replay.finish()?;
-        Ok(replay)
+        hold_last(&replay, settled)
     }
 }
 
@@ -95,7 +149,7 @@ fn hold_last<N: Editable, M: Measure>(
 
 impl Trial for Listing<'_> {
     fn run<N: Editable + Drop, M: Measure + Copy>(
-        &self,
+        &mut self,
         network: N,
         measure: M,
     ) -> Result<(), Trouble> {
@@ -108,8 +162,12 @@ impl Trial for Listing<'_> {
             .map(|exchange| exchange.reply)
             .collect(heap)?;
         drop(exchanges);
-        let replay = self.replay(&replies, &areas)?;
-        hold_last(&replay, &settled)
+        self.replay(&replies, &areas, &settled)?;
+        for &reply in &replies {
+            self.tried.add_reply(reply);
+        }
+        self.tried.add_list();
+        Ok(())
     }
 }
 
@@ -134,7 +192,8 @@ fn hold_list(
     dice: &mut Dice,
     shape: Shape,
     weighing: Weighing,
-) -> Result<usize, Trouble> {
+    tried: Tried,
+) -> Result<Tried, Trouble> {
     let fewest = shape.fewest();
     let nodes = fewest.saturating_add(dice.below(6usize.saturating_sub(fewest)));
     let below = match shape {
@@ -144,24 +203,29 @@ fn hold_list(
     let drawing = Drawing::of(heap, shape, nodes, &below)?;
     let tables = all_tables(heap, nodes)?;
     let turns = turns(heap, dice, nodes)?;
-    let listing = Listing {
-        case: Case::of(heap, weighing, &drawing),
+    let case = Case::of(heap, weighing, &drawing);
+    let mut listing = Listing {
+        case,
         tables: &tables,
         turns: &turns,
+        tried,
     };
-    run_on(&listing.case, &drawing, &listing)?;
-    Ok(turns.len())
+    run_on(&case, &drawing, &mut listing)?;
+    Ok(listing.tried)
 }
 
 /// Drives so many lists on networks of a shape, by each measure.
-pub(crate) fn hold_lists(heap: Global, shape: Shape, lists: usize) -> Result<Tried, Trouble> {
-    let mut dice = Dice::new(20);
+pub(crate) fn hold_lists(
+    heap: Global,
+    seed: u64,
+    shape: Shape,
+    lists: usize,
+) -> Result<Tried, Trouble> {
+    let mut dice = Dice::new(seed);
     let mut tried = Tried::default();
     for _ in 0..lists {
         for weighing in WEIGHINGS {
-            let calls = hold_list(heap, &mut dice, shape, weighing)?;
-            tried.lists = tried.lists.saturating_add(1);
-            tried.calls = tried.calls.saturating_add(calls);
+            tried = hold_list(heap, &mut dice, shape, weighing, tried)?;
         }
     }
     Ok(tried)

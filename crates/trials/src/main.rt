@@ -47,15 +47,15 @@ mod lists;
 // What goes wrong.
 mod trouble;
 
-use families::{Counts, Family, hold_family};
+use families::{Family, hold_family};
 use known::hold_known;
-use lists::{Tried, hold_lists};
+use lists::hold_lists;
 use shapes::Shape;
 use std::process::ExitCode;
 use trouble::Trouble;
 
-// The families, with the number of colours of the colourings.
-const FAMILIES: [(Shape, usize, u8); 14] = [
+// The families: shape, nodes, and how many colours the colourings have.
+const FAMILIES: [(Shape, usize, u8); 21] = [
     (Shape::Matrix, 1, 1),
     (Shape::Matrix, 2, 2),
     (Shape::Matrix, 3, 3),
@@ -65,63 +65,62 @@ const FAMILIES: [(Shape, usize, u8); 14] = [
     (Shape::NoLoops, 1, 1),
     (Shape::NoLoops, 2, 2),
     (Shape::NoLoops, 3, 3),
+    (Shape::List(1), 1, 1),
+    (Shape::List(4), 2, 2),
+    (Shape::List(9), 3, 3),
+    // With fewer slots than there are ties.
+    (Shape::List(1), 2, 2),
+    (Shape::List(2), 2, 2),
+    (Shape::List(2), 3, 3),
+    (Shape::List(4), 3, 3),
     (Shape::Sides(1), 2, 2),
     (Shape::Sides(1), 3, 3),
     (Shape::Sides(2), 3, 3),
     (Shape::Sides(2), 4, 4),
-    (Shape::Sides(3), 5, 2),
+    (Shape::Sides(3), 5, 3),
+];
+
+// The shapes on which lists of calls are driven, with the seed of their dice.
+const LISTED: [(Shape, u64); 10] = [
+    (Shape::Matrix, 1),
+    (Shape::Turned, 2),
+    (Shape::NoLoops, 3),
+    (Shape::Sides(1), 4),
+    (Shape::Sides(2), 5),
+    (Shape::Sides(3), 6),
+    (Shape::List(25), 7),
+    (Shape::List(1), 8),
+    (Shape::List(2), 9),
+    (Shape::List(3), 10),
 ];
 
 // Every small network.
 fn small_networks(rt: &(impl Print + AllocGlobal)) -> Result<(), Trouble> {
     for (shape, nodes, colours) in FAMILIES {
-        let counts = hold_family(
-            rt.alloc(),
-            Family {
-                shape,
-                nodes,
-                colours,
-            },
-        )?;
-        let Counts {
-            networks,
-            settled,
-            vetted,
-        } = counts;
-        println!(rt;
-            "{shape} of {nodes} nodes: {networks} networks, {settled} tables settled, {vetted} vetted"
-        )?;
+        let family = Family {
+            shape,
+            nodes,
+            colours,
+        };
+        let counts = hold_family(rt.alloc(), family)?;
+        println!(rt; "{shape}, nodes {nodes}: {counts}")?;
     }
     Ok(())
 }
 
-// The shapes on which lists are driven.
-const LISTED: [Shape; 6] = [
-    Shape::Matrix,
-    Shape::Turned,
-    Shape::NoLoops,
-    Shape::Sides(1),
-    Shape::Sides(2),
-    Shape::Sides(3),
-];
-
 // Lists of calls on each shape.
 fn random_lists(rt: &(impl Print + AllocGlobal)) -> Result<(), Trouble> {
-    for shape in LISTED {
-        let Tried { lists, calls } = hold_lists(rt.alloc(), shape, 200)?;
-        println!(rt; "{shape}: {lists} lists of {calls} calls")?;
+    for (shape, seed) in LISTED {
+        let tried = hold_lists(rt.alloc(), seed, shape, 150)?;
+        println!(rt; "{shape}: {tried}")?;
     }
     Ok(())
 }
 
 fn run(rt: &(impl Print + AllocGlobal)) -> Result<(), Trouble> {
     small_networks(rt)?;
-    let Counts {
-        networks,
-        settled,
-        ..
-    } = hold_known(rt.alloc())?;
-    println!(rt; "known tables: {networks} networks, {settled} tables settled")?;
+    let counts = hold_known(rt.alloc())?;
+    println!(rt; "known tables: {counts}")?;
     random_lists(rt)
 }
 

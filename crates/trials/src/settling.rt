@@ -28,8 +28,9 @@ pub(crate) struct Settling<'a> {
 
 impl Settling<'_> {
     /// Settles the network and holds what is told.
-    pub(crate) fn hold(&self) -> Result<(), Trouble> {
-        run_on(&self.case, self.drawing, self)
+    pub(crate) fn hold(&mut self) -> Result<(), Trouble> {
+        let case = self.case;
+        run_on(&case, self.drawing, self)
     }
 
     // Gives the puts and the colours. Each is answered as the book answers it.
@@ -90,11 +91,12 @@ impl Settling<'_> {
 
 impl Trial for Settling<'_> {
     fn run<N: Editable + Drop, M: Measure + Copy>(
-        &self,
+        &mut self,
         network: N,
         measure: M,
     ) -> Result<(), Trouble> {
-        let case = &self.case;
+        let case = self.case;
+        let case = &case;
         let mut session = Open::new(network, measure);
         self.draw(&mut session)?;
         hold_vets(case, session.network(), &measure, self.vetted)?;

@@ -11,6 +11,8 @@ use measure::tally::Tally;
 use network::interface::Editable;
 use network::matrix::Matrix;
 use network::no_loops::NoLoops;
+use network::slot::Slot;
+use network::slot_list::SlotList;
 use network::turned::Turned;
 use network::two_mode::TwoMode;
 use std::fmt;
@@ -24,6 +26,8 @@ pub(crate) enum Shape {
     NoLoops,
     /// Two modes, with so many nodes on side A.
     Sides(usize),
+    /// The list with so many slots.
+    List(usize),
 }
 
 impl fmt::Display for Shape {
@@ -33,6 +37,8 @@ impl fmt::Display for Shape {
             Shape::Turned => f.write_str("turned matrix"),
             Shape::NoLoops => f.write_str("matrix without loops"),
             Shape::Sides(a) => write!(f, "two-mode network with {a} on side A"),
+            Shape::List(1) => f.write_str("list of 1 slot"),
+            Shape::List(slots) => write!(f, "list of {slots} slots"),
         }
     }
 }
@@ -40,15 +46,24 @@ impl fmt::Display for Shape {
 impl Shape {
     pub(crate) fn allows(self, i: usize, j: usize) -> bool {
         match self {
-            Shape::Matrix | Shape::Turned => true,
+            Shape::Matrix | Shape::Turned | Shape::List(_) => true,
             Shape::NoLoops => i != j,
             Shape::Sides(a) => i < a && j >= a,
         }
     }
 
+    // How many pairs may be tied at a time.
+    fn cap(self, nodes: usize) -> usize {
+        match self {
+            Shape::List(slots) => slots,
+            Shape::Sides(a) => a.saturating_mul(nodes.saturating_sub(a)),
+            Shape::Matrix | Shape::Turned | Shape::NoLoops => nodes.saturating_mul(nodes),
+        }
+    }
+
     /// The network of n nodes without ties.
     pub(crate) fn untied(self, nodes: usize) -> Book {
-        let mut book = Book::new(nodes, nodes.saturating_mul(nodes));
+        let mut book = Book::new(nodes, self.cap(nodes));
         for i in 0..nodes {
             for j in 0..nodes {
                 book.allow(i, j, self.allows(i, j));
@@ -60,7 +75,7 @@ impl Shape {
     /// The least number of nodes.
     pub(crate) fn fewest(self) -> usize {
         match self {
-            Shape::Matrix | Shape::Turned | Shape::NoLoops => 1,
+            Shape::Matrix | Shape::Turned | Shape::NoLoops | Shape::List(_) => 1,
             Shape::Sides(a) => a.saturating_add(1),
         }
     }
@@ -70,7 +85,7 @@ impl Shape {
         match self {
             Shape::Turned => tie.from < tie.to,
             Shape::NoLoops => tie.from == tie.to,
-            Shape::Matrix | Shape::Sides(_) => false,
+            Shape::Matrix | Shape::Sides(_) | Shape::List(_) => false,
         }
     }
 }
@@ -78,14 +93,18 @@ impl Shape {
 /// What is tried of a network, whatever its type and its measure.
 pub(crate) trait Trial {
     fn run<N: Editable + Drop, M: Measure + Copy>(
-        &self,
+        &mut self,
         network: N,
         measure: M,
     ) -> Result<(), Trouble>;
 }
 
 // The trial by the measure of the case.
-fn run_by<N: Editable + Drop, T: Trial>(case: &Case, network: N, trial: &T) -> Result<(), Trouble> {
+fn run_by<N: Editable + Drop, T: Trial>(
+    case: &Case,
+    network: N,
+    trial: &mut T,
+) -> Result<(), Trouble> {
     match case.weighing {
         Weighing::Kinds => trial.run(network, Kinds),
         Weighing::Bundles => trial.run(network, Bundles),
@@ -110,7 +129,11 @@ fn matrix_below(case: &Case, drawing: &Drawing) -> Result<Matrix, Trouble> {
 }
 
 /// The trial of the network of the case's shape and size, with the ties that are put below.
-pub(crate) fn run_on<T: Trial>(case: &Case, drawing: &Drawing, trial: &T) -> Result<(), Trouble> {
+pub(crate) fn run_on<T: Trial>(
+    case: &Case,
+    drawing: &Drawing,
+    trial: &mut T,
+) -> Result<(), Trouble> {
     let heap = case.heap;
     let nodes = case.book.nodes;
     match case.shape {
@@ -121,6 +144,19 @@ pub(crate) fn run_on<T: Trial>(case: &Case, drawing: &Drawing, trial: &T) -> Res
             let b = nodes.saturating_sub(a);
             let memory = vec![in heap; 7; a.saturating_mul(b)]?;
             run_by(case, TwoMode::new(a, b, memory), trial)
+        }
+        Shape::List(slots) => {
+            // What the slots held before is nothing.
+            let slot = Slot::Taken {
+                from: 0,
+                to: 0,
+                byte: 7,
+            };
+            run_by(
+                case,
+                SlotList::new(nodes, vec![in heap; slot; slots]?),
+                trial,
+            )
         }
     }
 }
