@@ -1,6 +1,7 @@
 // Families of networks: each network of a shape and size whose bytes are 0 and 1.
 use super::book::Tie;
 use super::case::Case;
+use super::counts::Counts;
 use super::drawing::Drawing;
 use super::search::Search;
 use super::settling::Settling;
@@ -9,7 +10,6 @@ use super::tables::all_tables;
 use super::totals::{WEIGHINGS, Weighing};
 use super::trouble::Trouble;
 use std::alloc::{AllocError, Global};
-use std::fmt;
 
 /// Every network of the shape with so many nodes, from every colouring by so many colours.
 #[derive(Clone, Copy)]
@@ -17,25 +17,6 @@ pub(crate) struct Family {
     pub(crate) shape: Shape,
     pub(crate) nodes: usize,
     pub(crate) colours: u8,
-}
-
-/// How much was held.
-#[derive(Clone, Copy, Default)]
-pub(crate) struct Counts {
-    pub(crate) networks: usize,
-    pub(crate) settled: usize,
-    pub(crate) vetted: usize,
-}
-
-impl fmt::Display for Counts {
-    fn fmt<W: fmt::Write>(&self, f: &mut fmt::Formatter<W>) -> fmt::Result {
-        let Counts {
-            networks,
-            settled,
-            vetted,
-        } = self;
-        write!(f, "{networks} networks, {settled} settled, {vetted} vetted")
-    }
 }
 
 // What the networks of a family have in common.

@@ -1,11 +1,12 @@
-// The small networks with known tables, on each shape that can hold them.
+// The small networks with known tables, settled on each shape that can hold them.
 use super::book::Tie;
 use super::case::Case;
+use super::counts::Counts;
 use super::drawing::Drawing;
-use super::families::Counts;
 use super::search::Search;
 use super::settling::Settling;
 use super::shapes::{Shape, Trial, run_on};
+use super::small::{KNOWN, Known};
 use super::tables::{all_tables, role_count, same_roles};
 use super::totals::Weighing;
 use super::trouble::Trouble;
@@ -14,135 +15,6 @@ use measure::interface::Measure;
 use network::faults::Fault;
 use network::interface::Editable;
 use std::alloc::{AllocError, Global};
-
-// A network with byte 1 for each tie, and colours from node 0 up, and what it settles into.
-#[derive(Clone, Copy)]
-struct Known {
-    nodes: usize,
-    ties: &'static [(usize, usize)],
-    colours: &'static [u8],
-    weighing: Weighing,
-    table: &'static [u8],
-    roles: usize,
-    splits: usize,
-}
-
-const CHAIN: [(usize, usize); 8] = [
-    (0, 1),
-    (1, 2),
-    (2, 3),
-    (3, 4),
-    (4, 5),
-    (5, 6),
-    (6, 7),
-    (7, 8),
-];
-
-const TEAMS: [(usize, usize); 3] = [(0, 1), (0, 2), (3, 4)];
-
-const CYCLES: [(usize, usize); 5] = [(0, 1), (1, 2), (2, 0), (3, 4), (4, 3)];
-
-const KNOWN: [Known; 11] = [
-    Known {
-        nodes: 4,
-        ties: &[],
-        colours: &[0, 1, 0, 1],
-        weighing: Weighing::Kinds,
-        table: &[0, 1, 0, 1],
-        roles: 2,
-        splits: 0,
-    },
-    Known {
-        nodes: 1,
-        ties: &[(0, 0)],
-        colours: &[],
-        weighing: Weighing::Kinds,
-        table: &[0],
-        roles: 1,
-        splits: 0,
-    },
-    Known {
-        nodes: 3,
-        ties: &[(0, 1), (1, 2)],
-        colours: &[],
-        weighing: Weighing::Kinds,
-        table: &[0, 1, 2],
-        roles: 3,
-        splits: 2,
-    },
-    Known {
-        nodes: 3,
-        ties: &[(0, 1)],
-        colours: &[],
-        weighing: Weighing::Kinds,
-        table: &[0, 1, 2],
-        roles: 3,
-        splits: 2,
-    },
-    Known {
-        nodes: 9,
-        ties: &CHAIN,
-        colours: &[],
-        weighing: Weighing::Kinds,
-        table: &[0, 1, 2, 3, 4, 5, 6, 7, 8],
-        roles: 9,
-        splits: 8,
-    },
-    Known {
-        nodes: 5,
-        ties: &TEAMS,
-        colours: &[],
-        weighing: Weighing::Kinds,
-        table: &[0, 1, 1, 0, 1],
-        roles: 2,
-        splits: 1,
-    },
-    Known {
-        nodes: 5,
-        ties: &TEAMS,
-        colours: &[],
-        weighing: Weighing::Tally,
-        table: &[0, 1, 1, 3, 4],
-        roles: 4,
-        splits: 3,
-    },
-    Known {
-        nodes: 5,
-        ties: &CYCLES,
-        colours: &[],
-        weighing: Weighing::Kinds,
-        table: &[0, 0, 0, 0, 0],
-        roles: 1,
-        splits: 0,
-    },
-    Known {
-        nodes: 5,
-        ties: &CYCLES,
-        colours: &[],
-        weighing: Weighing::Bundles,
-        table: &[0, 0, 0, 3, 3],
-        roles: 2,
-        splits: 1,
-    },
-    Known {
-        nodes: 5,
-        ties: &CYCLES,
-        colours: &[],
-        weighing: Weighing::Tally,
-        table: &[0, 0, 0, 0, 0],
-        roles: 1,
-        splits: 0,
-    },
-    Known {
-        nodes: 5,
-        ties: &[(0, 3), (1, 3)],
-        colours: &[],
-        weighing: Weighing::Kinds,
-        table: &[0, 0, 2, 3, 2],
-        roles: 3,
-        splits: 2,
-    },
-];
 
 // Each tie with byte 1.
 fn ties(heap: Global, pairs: &[(usize, usize)]) -> Result<Vec<Tie>, AllocError> {

@@ -28,9 +28,13 @@ mod asking;
 mod vets;
 // A network settled from one colouring.
 mod settling;
+// How much was held.
+mod counts;
 // Every small network of a shape.
 mod families;
-// The small networks with known tables.
+// The small networks whose tables are known.
+mod small;
+// These networks on each shape.
 mod known;
 // Random numbers from a seed.
 mod dice;
@@ -42,7 +46,9 @@ mod numberings;
 mod told;
 // A list of calls replayed by the model.
 mod replay;
-// Random lists of calls, driven and replayed.
+// One list, driven and replayed.
+mod listing;
+// Random lists of calls.
 mod lists;
 // What goes wrong.
 mod trouble;

@@ -21,17 +21,26 @@ pub(crate) struct Replay<'a> {
     pub(crate) candidates: Vec<Vec<u8>>,
     splits: usize,
     settled: bool,
+    /// How many lists went before, and how many calls of this one.
+    list: usize,
+    at: usize,
 }
 
 impl<'a> Replay<'a> {
     /// An open session at the starting classes.
-    pub(crate) fn new(case: Case, tables: &'a [Vec<u8>]) -> Result<Replay<'a>, AllocError> {
+    pub(crate) fn new(
+        case: Case,
+        tables: &'a [Vec<u8>],
+        list: usize,
+    ) -> Result<Replay<'a>, AllocError> {
         let mut replay = Replay {
             case,
             tables,
             candidates: Vec::new(case.heap),
             splits: 0,
             settled: false,
+            list,
+            at: 0,
         };
         replay.restart()?;
         Ok(replay)
@@ -73,8 +82,8 @@ impl<'a> Replay<'a> {
         Ok(())
     }
 
-    // The candidates after the step that was told. None is left where it is wrong.
-    fn step(&mut self, reply: Reply) -> Result<(), AllocError> {
+    // The candidates after the step that was told, none where it is wrong.
+    fn stepped(&self, reply: Reply) -> Result<Vec<Vec<u8>>, AllocError> {
         let mut next = Vec::new(self.case.heap);
         for table in &self.candidates {
             let Reply::Step(step) = reply else {
@@ -86,15 +95,11 @@ impl<'a> Replay<'a> {
                 Stepped::Wrong => {}
             }
         }
-        self.candidates = next;
-        let classes = role_count(self.case.book.colours());
-        let roles = self.candidates.first().map_or(0, |table| role_count(table));
-        self.splits = roles.saturating_sub(classes);
-        Ok(())
+        Ok(next)
     }
 
     // The candidates that agree with what was told.
-    fn filter(&mut self, turn: &Turn, reply: Reply, area: &[u8]) -> Result<(), AllocError> {
+    fn agreeing(&self, turn: &Turn, reply: Reply, area: &[u8]) -> Result<Vec<Vec<u8>>, AllocError> {
         let mut agreeing = Vec::new(self.case.heap);
         for table in &self.candidates {
             let told = telling(&self.case, table, self.splits, turn)?;
@@ -102,7 +107,21 @@ impl<'a> Replay<'a> {
                 agreeing.push(table.clone()?)?;
             }
         }
-        self.candidates = agreeing;
+        Ok(agreeing)
+    }
+
+    // Takes a reply that depends on the table, if it fits one that the session may have.
+    fn narrow(&mut self, turn: &Turn, reply: Reply, area: &[u8]) -> Result<(), Trouble> {
+        let next = match turn.choice {
+            Choice::Step => self.stepped(reply)?,
+            _ => self.agreeing(turn, reply, area)?,
+        };
+        let Some(table) = next.first() else {
+            return Err(self.differs(turn, reply, area));
+        };
+        let classes = role_count(self.case.book.colours());
+        self.splits = role_count(table).saturating_sub(classes);
+        self.candidates = next;
         Ok(())
     }
 
@@ -133,11 +152,9 @@ impl<'a> Replay<'a> {
     pub(crate) fn take(&mut self, turn: &Turn, reply: Reply, area: &[u8]) -> Result<(), Trouble> {
         let choice = turn.choice;
         let due = self.due(choice);
-        if let Some(wanted) = due {
-            self.case.hold("this call", reply, wanted)?;
-        }
+        let differs = due.is_some_and(|wanted| reply != wanted);
         let asks = matches!(choice, Choice::Look | Choice::Ask) && due.is_none();
-        if !asks && area != turn.area.as_slice() {
+        if differs || !asks && area != turn.area.as_slice() {
             return Err(self.differs(turn, reply, area));
         }
         match due {
@@ -145,21 +162,20 @@ impl<'a> Replay<'a> {
             Some(Reply::Settled) => self.settle()?,
             Some(Reply::Reopened) => self.settled = false,
             Some(_) => {}
-            None if matches!(choice, Choice::Step) => self.step(reply)?,
-            None => self.filter(turn, reply, area)?,
+            None => self.narrow(turn, reply, area)?,
         }
-        if self.candidates.is_empty() {
-            return Err(self.differs(turn, reply, area));
-        }
+        self.at = self.at.saturating_add(1);
         Ok(())
     }
 
+    // The call that was not answered as it is to be.
     fn differs(&self, turn: &Turn, reply: Reply, area: &[u8]) -> Trouble {
         let heap = self.case.heap;
-        let choice = turn.choice;
-        let lent = turn.area.as_slice();
+        let list = self.list;
+        let at = self.at;
+        let tables = self.candidates.as_slice();
         self.case.differs(format!(in heap;
-            "{choice:?}, lent {lent:?}, gives {reply:?} and leaves {area:?}"
+            "list {list}, call {at}, table {tables:?}: {turn:?} gives {reply:?}, leaves {area:?}"
         ))
     }
 }

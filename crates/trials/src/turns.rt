@@ -21,7 +21,7 @@ pub(crate) enum Choice {
 }
 
 /// A call with its question, and what stands in the area that it is lent.
-#[derive(Drop)]
+#[derive(Debug, Drop)]
 pub(crate) struct Turn {
     pub(crate) choice: Choice,
     pub(crate) question: Vec<Line>,
@@ -47,7 +47,7 @@ impl Turn {
     }
 }
 
-const BYTES: [u8; 10] = [0, 0, 1, 1, 1, 2, 3, 8, 129, 255];
+const BYTES: [u8; 12] = [0, 0, 1, 1, 1, 2, 3, 4, 5, 8, 129, 255];
 
 const COLOURS: [u8; 6] = [0, 0, 0, 1, 1, 255];
 
