@@ -1,4 +1,4 @@
-// Families of networks: each network of a shape and size whose bytes are 0 and 1.
+// Families of networks: each network of a shape and size whose bytes are below a bound.
 use super::book::Tie;
 use super::case::Case;
 use super::counts::Counts;
@@ -11,11 +11,13 @@ use super::totals::{WEIGHINGS, Weighing};
 use super::trouble::Trouble;
 use std::alloc::{AllocError, Global};
 
-/// Every network of the shape with so many nodes, from every colouring by so many colours.
+/// Every network of the shape with so many nodes and with so many bytes, 0 and up, from every
+/// colouring by so many colours.
 #[derive(Clone, Copy)]
 pub(crate) struct Family {
     pub(crate) shape: Shape,
     pub(crate) nodes: usize,
+    pub(crate) bytes: u8,
     pub(crate) colours: u8,
 }
 
@@ -135,7 +137,7 @@ pub(crate) fn hold_family(heap: Global, family: Family) -> Result<Counts, Troubl
     let common = Common::of(heap, family)?;
     let pairs = family.pairs(heap)?;
     let mut counts = Counts::default();
-    for bytes in all_rows(heap, pairs.len(), 2)?.iter() {
+    for bytes in all_rows(heap, pairs.len(), family.bytes)?.iter() {
         common.hold_network(&ties(heap, &pairs, bytes)?, &mut counts)?;
     }
     Ok(counts)

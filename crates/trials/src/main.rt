@@ -60,30 +60,31 @@ use shapes::Shape;
 use std::process::ExitCode;
 use trouble::Trouble;
 
-// The families: shape, nodes, and how many colours the colourings have.
-const FAMILIES: [(Shape, usize, u8); 21] = [
-    (Shape::Matrix, 1, 1),
-    (Shape::Matrix, 2, 2),
-    (Shape::Matrix, 3, 3),
-    (Shape::Turned, 1, 1),
-    (Shape::Turned, 2, 2),
-    (Shape::Turned, 3, 3),
-    (Shape::NoLoops, 1, 1),
-    (Shape::NoLoops, 2, 2),
-    (Shape::NoLoops, 3, 3),
-    (Shape::List(1), 1, 1),
-    (Shape::List(4), 2, 2),
-    (Shape::List(9), 3, 3),
+// The families: the shape, and how many nodes, bytes and colours.
+const FAMILIES: [(Shape, usize, u8, u8); 22] = [
+    (Shape::Matrix, 1, 2, 1),
+    (Shape::Matrix, 2, 2, 2),
+    (Shape::Matrix, 2, 4, 2),
+    (Shape::Matrix, 3, 2, 3),
+    (Shape::Turned, 1, 2, 1),
+    (Shape::Turned, 2, 2, 2),
+    (Shape::Turned, 3, 2, 3),
+    (Shape::NoLoops, 1, 2, 1),
+    (Shape::NoLoops, 2, 2, 2),
+    (Shape::NoLoops, 3, 2, 3),
+    (Shape::List(1), 1, 2, 1),
+    (Shape::List(4), 2, 2, 2),
+    (Shape::List(9), 3, 2, 3),
     // With fewer slots than there are ties.
-    (Shape::List(1), 2, 2),
-    (Shape::List(2), 2, 2),
-    (Shape::List(2), 3, 3),
-    (Shape::List(4), 3, 3),
-    (Shape::Sides(1), 2, 2),
-    (Shape::Sides(1), 3, 3),
-    (Shape::Sides(2), 3, 3),
-    (Shape::Sides(2), 4, 4),
-    (Shape::Sides(3), 5, 3),
+    (Shape::List(1), 2, 2, 2),
+    (Shape::List(2), 2, 2, 2),
+    (Shape::List(2), 3, 2, 3),
+    (Shape::List(4), 3, 2, 3),
+    (Shape::Sides(1), 2, 2, 2),
+    (Shape::Sides(1), 3, 2, 3),
+    (Shape::Sides(2), 3, 2, 3),
+    (Shape::Sides(2), 4, 2, 4),
+    (Shape::Sides(3), 5, 2, 3),
 ];
 
 // The shapes on which lists of calls are driven, with the seed of their dice.
@@ -102,14 +103,15 @@ const LISTED: [(Shape, u64); 10] = [
 
 // Every small network.
 fn small_networks(rt: &(impl Print + AllocGlobal)) -> Result<(), Trouble> {
-    for (shape, nodes, colours) in FAMILIES {
+    for (shape, nodes, bytes, colours) in FAMILIES {
         let family = Family {
             shape,
             nodes,
+            bytes,
             colours,
         };
         let counts = hold_family(rt.alloc(), family)?;
-        println!(rt; "{shape}, nodes {nodes}: {counts}")?;
+        println!(rt; "{shape}, n = {nodes}, bytes below {bytes}: {counts}")?;
     }
     Ok(())
 }

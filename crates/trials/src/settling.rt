@@ -84,6 +84,7 @@ impl Settling<'_> {
                 }
             }
             case.hold("table after a step", session.table(), table.as_slice())?;
+            hold_roles(case, session, &table)?;
         }
         Err(case.differs(format!(in heap; "steps do not end")))
     }
@@ -111,7 +112,7 @@ impl Trial for Settling<'_> {
         let first = case.book.colours().first().copied().unwrap_or(0);
         case.hold("colour again", session.colour(0, first), Ok(()))?;
         case.hold("table after a colour", session.table(), classes.as_slice())?;
-        case.hold("splits after a colour", session.splits(), 0)?;
+        hold_roles(case, &session, &classes)?;
         self.step_through(&mut session, classes)
     }
 }

@@ -47,9 +47,9 @@ impl Turn {
     }
 }
 
-const BYTES: [u8; 12] = [0, 0, 1, 1, 1, 2, 3, 4, 5, 8, 129, 255];
+const BYTES: [u8; 12] = [0, 1, 1, 1, 1, 2, 3, 4, 5, 8, 129, 255];
 
-const COLOURS: [u8; 6] = [0, 0, 0, 1, 1, 255];
+const COLOURS: [u8; 6] = [0, 0, 0, 0, 1, 255];
 
 const TESTS: [u8; 14] = [0, 1, 2, 7, 8, 9, 10, 15, 16, 63, 64, 128, 129, 255];
 
@@ -58,21 +58,34 @@ fn number(dice: &mut Dice, bound: usize) -> usize {
     if dice.is_one_in(200) {
         return usize::MAX;
     }
-    if dice.is_one_in(12) {
+    if dice.is_one_in(10) {
         return bound.saturating_add(dice.below(3));
     }
     dice.below(bound)
 }
 
+// A put or a colour. A pair is at times a node with itself.
+fn any_edit(dice: &mut Dice, nodes: usize) -> Choice {
+    let i = number(dice, nodes);
+    if dice.is_one_in(4) {
+        return Choice::Colour(i, dice.byte(&COLOURS));
+    }
+    let j = if dice.is_one_in(5) {
+        i
+    } else {
+        number(dice, nodes)
+    };
+    Choice::Put(i, j, dice.byte(&BYTES))
+}
+
 // Any call, of a network of so many nodes.
 fn any_choice(dice: &mut Dice, nodes: usize) -> Choice {
     match dice.below(20) {
-        0..=5 => Choice::Put(number(dice, nodes), number(dice, nodes), dice.byte(&BYTES)),
-        6..=7 => Choice::Colour(number(dice, nodes), dice.byte(&COLOURS)),
-        8..=9 => Choice::Step,
-        10 => Choice::Settle,
-        11 => Choice::Reopen,
-        12 => Choice::Look,
+        0..=2 => any_edit(dice, nodes),
+        3..=6 => Choice::Step,
+        7..=8 => Choice::Settle,
+        9..=10 => Choice::Reopen,
+        11..=12 => Choice::Look,
         13..=14 => Choice::Ask,
         15 => Choice::Roles,
         16 => Choice::Splits,
@@ -142,8 +155,12 @@ fn area(heap: Global, size: usize) -> Result<Vec<u8>, AllocError> {
 }
 
 // A call with a question and an area where it takes them, the area at times too small.
-fn any_turn(heap: Global, dice: &mut Dice, nodes: usize) -> Result<Turn, AllocError> {
-    let choice = any_choice(dice, nodes);
+fn any_turn(
+    heap: Global,
+    dice: &mut Dice,
+    choice: Choice,
+    nodes: usize,
+) -> Result<Turn, AllocError> {
     let question = match choice {
         Choice::Look | Choice::Ask => question(heap, dice)?,
         _ => Vec::new(heap),
@@ -161,11 +178,17 @@ fn any_turn(heap: Global, dice: &mut Dice, nodes: usize) -> Result<Turn, AllocEr
     })
 }
 
-/// A list of up to 20 calls.
+/// A list of up to 20 calls, of which the first few are puts and colours.
 pub(crate) fn turns(heap: Global, dice: &mut Dice, nodes: usize) -> Result<Vec<Turn>, AllocError> {
     let mut turns = Vec::new(heap);
-    for _ in 0..dice.below(21) {
-        turns.push(any_turn(heap, dice, nodes)?)?;
+    let edits = dice.below(10);
+    for at in 0..dice.below(21) {
+        let choice = if at < edits {
+            any_edit(dice, nodes)
+        } else {
+            any_choice(dice, nodes)
+        };
+        turns.push(any_turn(heap, dice, choice, nodes)?)?;
     }
     Ok(turns)
 }

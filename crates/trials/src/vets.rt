@@ -1,11 +1,17 @@
 // The vet of every table of a network.
+use super::book::MOST;
 use super::case::Case;
 use super::search::is_regular;
 use super::totals::total_toward;
 use super::trouble::Trouble;
+use equivalence::faults::Fault;
 use equivalence::vetting::vet;
 use measure::interface::Measure;
 use network::interface::Readable;
+use std::alloc::AllocError;
+
+// More bytes than any network of the trials has nodes.
+const LONG: usize = MOST + 1;
 
 // Whether these nodes show that a table is not regular: x is below y and in its role, and they
 // differ toward the role of z.
@@ -38,7 +44,12 @@ fn hold_vet<N: Readable, M: Measure>(
     Err(case.differs(format!(in heap; "the vet of {table:?} gives {given:?}")))
 }
 
-/// Holds the vet of every table, and of one that is too long.
+// The same table under other names.
+fn renamed(case: &Case, table: &[u8]) -> Result<Vec<u8>, AllocError> {
+    table.iter().map(|&role| u8::MAX - role).collect(case.heap)
+}
+
+/// Holds the vet of every table under two names, and of one that is too long.
 pub(crate) fn hold_vets<N: Readable, M: Measure>(
     case: &Case,
     network: &N,
@@ -47,6 +58,8 @@ pub(crate) fn hold_vets<N: Readable, M: Measure>(
 ) -> Result<(), Trouble> {
     for table in tables {
         hold_vet(case, network, measure, table)?;
+        hold_vet(case, network, measure, &renamed(case, table)?)?;
     }
-    Ok(())
+    let long = vet(network, measure, &[0; LONG]);
+    case.hold("the vet of a long table", long, Err(Fault::Length))
 }
