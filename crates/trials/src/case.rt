@@ -7,6 +7,7 @@ use super::trouble::Trouble;
 use std::alloc::{AllocError, Global};
 use std::fmt;
 
+/// What is held: the network in its shape, its measure, and its ties and colours.
 #[derive(Clone, Copy)]
 pub(crate) struct Case {
     pub(crate) heap: Global,

@@ -1,4 +1,4 @@
-// How a network of a shape comes to its ties: some are put below a layer, and the others through it.
+// How a network of a shape comes to its ties: some are put below a layer, the others through it.
 use super::book::{Book, Tie};
 use super::shapes::Shape;
 use std::alloc::{AllocError, Global};

@@ -13,6 +13,7 @@ use network::interface::{Editable, Readable};
 use session::settled::Settled;
 use std::alloc::{AllocError, Global};
 
+/// A list to be driven.
 #[derive(Drop)]
 pub(crate) struct Listing<'a> {
     /// The network at its start.

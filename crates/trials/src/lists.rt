@@ -43,7 +43,7 @@ fn hold_list(
     };
     let drawing = Drawing::of(heap, shape, nodes, &below)?;
     let tables = all_tables(heap, nodes)?;
-    let turns = turns(heap, dice, nodes)?;
+    let turns = turns(heap, dice, shape, nodes)?;
     let case = Case::of(heap, weighing, &drawing);
     let mut listing = Listing {
         case,

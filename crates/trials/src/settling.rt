@@ -15,10 +15,12 @@ use session::open::Open;
 use session::settled::Settled;
 use session::step::Step;
 
+/// A network to be settled, and what is to come of it.
 #[derive(Drop)]
 pub(crate) struct Settling<'a> {
     /// The network with all its ties, and colours.
     pub(crate) case: Case,
+    /// How it comes to its ties.
     pub(crate) drawing: &'a Drawing,
     /// The coarsest table.
     pub(crate) coarsest: &'a [u8],
@@ -96,8 +98,7 @@ impl Trial for Settling<'_> {
         network: N,
         measure: M,
     ) -> Result<(), Trouble> {
-        let case = self.case;
-        let case = &case;
+        let case = &self.case;
         let mut session = Open::new(network, measure);
         self.draw(&mut session)?;
         hold_vets(case, session.network(), &measure, self.vetted)?;

@@ -1,5 +1,6 @@
 // Lists of calls, drawn at random: valid ones, and ones that are refused or not taken.
 use super::dice::Dice;
+use super::shapes::Shape;
 use driving::call::Call;
 use question::line::Line;
 use std::alloc::{AllocError, Global};
@@ -64,32 +65,39 @@ fn number(dice: &mut Dice, bound: usize) -> usize {
     dice.below(bound)
 }
 
-// A put or a colour. A pair is at times a node with itself.
-fn any_edit(dice: &mut Dice, nodes: usize) -> Choice {
+// A pair, at times a node with itself.
+fn any_pair(dice: &mut Dice, nodes: usize) -> (usize, usize) {
     let i = number(dice, nodes);
-    if dice.is_one_in(4) {
-        return Choice::Colour(i, dice.byte(&COLOURS));
+    if dice.is_one_in(5) {
+        return (i, i);
     }
-    let j = if dice.is_one_in(5) {
-        i
-    } else {
-        number(dice, nodes)
-    };
+    (i, number(dice, nodes))
+}
+
+// A put or a colour. The pair is drawn once more where it may not be tied.
+fn any_edit(dice: &mut Dice, shape: Shape, nodes: usize) -> Choice {
+    if dice.is_one_in(4) {
+        return Choice::Colour(number(dice, nodes), dice.byte(&COLOURS));
+    }
+    let (mut i, mut j) = any_pair(dice, nodes);
+    if !shape.allows(i, j) {
+        (i, j) = any_pair(dice, nodes);
+    }
     Choice::Put(i, j, dice.byte(&BYTES))
 }
 
-// Any call, of a network of so many nodes.
-fn any_choice(dice: &mut Dice, nodes: usize) -> Choice {
+// Any call, on a network of so many nodes.
+fn any_choice(dice: &mut Dice, shape: Shape, nodes: usize) -> Choice {
     match dice.below(20) {
-        0..=2 => any_edit(dice, nodes),
-        3..=6 => Choice::Step,
-        7..=8 => Choice::Settle,
-        9..=10 => Choice::Reopen,
-        11..=12 => Choice::Look,
-        13..=14 => Choice::Ask,
-        15 => Choice::Roles,
-        16 => Choice::Splits,
-        17 => Choice::Role(number(dice, nodes)),
+        0..=2 => any_edit(dice, shape, nodes),
+        3..=5 => Choice::Step,
+        6..=7 => Choice::Settle,
+        8 => Choice::Reopen,
+        9..=10 => Choice::Look,
+        11..=13 => Choice::Ask,
+        14 => Choice::Roles,
+        15 => Choice::Splits,
+        16 => Choice::Role(number(dice, nodes)),
         _ => Choice::RoleOf(number(dice, nodes)),
     }
 }
@@ -178,15 +186,28 @@ fn any_turn(
     })
 }
 
-/// A list of up to 20 calls, of which the first few are puts and colours.
-pub(crate) fn turns(heap: Global, dice: &mut Dice, nodes: usize) -> Result<Vec<Turn>, AllocError> {
+// How many calls a list has.
+fn call_count(dice: &mut Dice) -> usize {
+    if dice.is_one_in(30) {
+        return 0;
+    }
+    dice.below(16).saturating_add(7)
+}
+
+/// A list of up to 22 calls, of which the first few are puts and colours.
+pub(crate) fn turns(
+    heap: Global,
+    dice: &mut Dice,
+    shape: Shape,
+    nodes: usize,
+) -> Result<Vec<Turn>, AllocError> {
     let mut turns = Vec::new(heap);
-    let edits = dice.below(10);
-    for at in 0..dice.below(21) {
+    let edits = dice.below(9);
+    for at in 0..call_count(dice) {
         let choice = if at < edits {
-            any_edit(dice, nodes)
+            any_edit(dice, shape, nodes)
         } else {
-            any_choice(dice, nodes)
+            any_choice(dice, shape, nodes)
         };
         turns.push(any_turn(heap, dice, choice, nodes)?)?;
     }
