@@ -25,6 +25,17 @@ impl Dice {
         self.below(times) == 0
     }
 
+    /// A number below the bound, or rarely one that is not.
+    pub(crate) fn argument(&mut self, bound: usize) -> usize {
+        if self.is_one_in(200) {
+            return usize::MAX;
+        }
+        if self.is_one_in(10) {
+            return bound.saturating_add(self.below(3));
+        }
+        self.below(bound)
+    }
+
     /// One of the bytes.
     pub(crate) fn byte(&mut self, bytes: &[u8]) -> u8 {
         let at = self.below(bytes.len());

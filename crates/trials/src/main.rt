@@ -38,6 +38,8 @@ mod small;
 mod known;
 // Random numbers from a seed.
 mod dice;
+// Questions, drawn at random.
+mod questions;
 // Lists of calls, drawn at random.
 mod turns;
 // The numbers that roles can have after a settle.

@@ -1,5 +1,6 @@
 // Lists of calls, drawn at random: valid ones, and ones that are refused or not taken.
 use super::dice::Dice;
+use super::questions::{COLOURS, any_question};
 use super::shapes::Shape;
 use driving::call::Call;
 use question::line::Line;
@@ -50,34 +51,19 @@ impl Turn {
 
 const BYTES: [u8; 12] = [0, 1, 1, 1, 1, 2, 3, 4, 5, 8, 129, 255];
 
-const COLOURS: [u8; 6] = [0, 0, 0, 0, 1, 255];
-
-const TESTS: [u8; 14] = [0, 1, 2, 7, 8, 9, 10, 15, 16, 63, 64, 128, 129, 255];
-
-// A number below the bound, or rarely one that is not.
-fn number(dice: &mut Dice, bound: usize) -> usize {
-    if dice.is_one_in(200) {
-        return usize::MAX;
-    }
-    if dice.is_one_in(10) {
-        return bound.saturating_add(dice.below(3));
-    }
-    dice.below(bound)
-}
-
 // A pair, at times a node with itself.
 fn any_pair(dice: &mut Dice, nodes: usize) -> (usize, usize) {
-    let i = number(dice, nodes);
+    let i = dice.argument(nodes);
     if dice.is_one_in(5) {
         return (i, i);
     }
-    (i, number(dice, nodes))
+    (i, dice.argument(nodes))
 }
 
 // A put or a colour. The pair is drawn once more where it may not be tied.
 fn any_edit(dice: &mut Dice, shape: Shape, nodes: usize) -> Choice {
     if dice.is_one_in(4) {
-        return Choice::Colour(number(dice, nodes), dice.byte(&COLOURS));
+        return Choice::Colour(dice.argument(nodes), dice.byte(&COLOURS));
     }
     let (mut i, mut j) = any_pair(dice, nodes);
     if !shape.allows(i, j) {
@@ -97,58 +83,9 @@ fn any_choice(dice: &mut Dice, shape: Shape, nodes: usize) -> Choice {
         11..=13 => Choice::Ask,
         14 => Choice::Roles,
         15 => Choice::Splits,
-        16 => Choice::Role(number(dice, nodes)),
-        _ => Choice::RoleOf(number(dice, nodes)),
+        16 => Choice::Role(dice.argument(nodes)),
+        _ => Choice::RoleOf(dice.argument(nodes)),
     }
-}
-
-// A line that names earlier lines.
-fn right_line(dice: &mut Dice, at: usize) -> Line {
-    if at == 0 {
-        return Line::colour(dice.byte(&COLOURS));
-    }
-    let k = dice.below(at);
-    match dice.below(4) {
-        0 => Line::colour(dice.byte(&COLOURS)),
-        1 => Line::not(k),
-        2 => Line::and(k, dice.below(at)),
-        _ => Line::tied(k, dice.byte(&TESTS)),
-    }
-}
-
-// Any line: its code may be unknown, and the lines that it names may be later.
-fn any_line(dice: &mut Dice, at: usize) -> Line {
-    Line {
-        code: dice.byte(&[0, 1, 2, 3, 4, 255]),
-        k: number(dice, at.saturating_add(1)),
-        l: number(dice, at.saturating_add(1)),
-        byte: dice.byte(&TESTS),
-    }
-}
-
-// How many lines a question has: mostly few, and at times as many as it may or one more.
-fn length(dice: &mut Dice) -> usize {
-    match dice.below(20) {
-        0 => 0,
-        1 => 32,
-        2 => 33,
-        _ => dice.below(5).saturating_add(1),
-    }
-}
-
-// A question, of which one line is at times any line.
-fn question(heap: Global, dice: &mut Dice) -> Result<Vec<Line>, AllocError> {
-    let length = length(dice);
-    let wrong = dice.below(length.saturating_mul(3));
-    let mut question = Vec::new(heap);
-    for at in 0..length {
-        question.push(if at == wrong {
-            any_line(dice, at)
-        } else {
-            right_line(dice, at)
-        })?;
-    }
-    Ok(question)
 }
 
 // Bytes that no row has, each unlike those beside it.
@@ -170,7 +107,7 @@ fn any_turn(
     nodes: usize,
 ) -> Result<Turn, AllocError> {
     let question = match choice {
-        Choice::Look | Choice::Ask => question(heap, dice)?,
+        Choice::Look | Choice::Ask => any_question(heap, dice)?,
         _ => Vec::new(heap),
     };
     let needed = question.len().saturating_mul(nodes);
