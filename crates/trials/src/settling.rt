@@ -1,0 +1,119 @@
+// A network settled from one colouring, whole and step by step, with a question put to its roles.
+use super::asking::hold_question;
+use super::book::Tie;
+use super::case::Case;
+use super::drawing::Drawing;
+use super::shapes::{Trial, run_on};
+use super::steps::{Stepped, after_step};
+use super::tables::{head, in_order};
+use super::tellings::hold_roles;
+use super::trouble::Trouble;
+use super::vets::hold_vets;
+use measure::interface::Measure;
+use network::interface::{Editable, Readable};
+use session::open::Open;
+use session::settled::Settled;
+use session::step::Step;
+
+/// A network to be settled, and what is to come of it.
+#[derive(Drop)]
+pub(crate) struct Settling<'a> {
+    /// The network with all its ties, and colours.
+    pub(crate) case: Case,
+    /// How it comes to its ties.
+    pub(crate) drawing: &'a Drawing,
+    /// The coarsest table.
+    pub(crate) coarsest: &'a [u8],
+    /// The tables that are vetted.
+    pub(crate) vetted: &'a [Vec<u8>],
+}
+
+impl Settling<'_> {
+    /// Settles the network and holds what is told.
+    pub(crate) fn hold(&mut self) -> Result<(), Trouble> {
+        let case = self.case;
+        run_on(&case, self.drawing, self)
+    }
+
+    // Gives the puts and the colours. Each is answered as the book answers it.
+    fn draw<N: Editable, M: Measure>(&self, session: &mut Open<N, M>) -> Result<(), Trouble> {
+        let mut book = self.drawing.start;
+        for &Tie { from, to, byte } in &self.drawing.puts {
+            let wanted = book.put(from, to, byte);
+            let given = session.put(from, to, byte);
+            self.case.hold_at("a put from node", from, given, wanted)?;
+        }
+        for (x, &colour) in self.case.book.colours().iter().enumerate() {
+            let given = session.colour(x, colour);
+            self.case.hold_at("colour", x, given, Ok(()))?;
+        }
+        Ok(())
+    }
+
+    // Each starting class is known by its number, which its head keeps.
+    fn hold_numbers<N: Editable, M: Measure>(
+        &self,
+        settled: &Settled<N, M>,
+        classes: &[u8],
+    ) -> Result<(), Trouble> {
+        for (x, &class) in classes.iter().enumerate() {
+            if head(classes, class) == Some(x) {
+                let number = usize::from(class);
+                let given = settled.role_of(x);
+                self.case.hold_at("role_of", x, given, Ok(number))?;
+            }
+        }
+        Ok(())
+    }
+
+    // Steps from the starting classes until the table is stable, and holds each answer.
+    fn step_through<N: Editable, M: Measure>(
+        &self,
+        session: &mut Open<N, M>,
+        classes: Vec<u8>,
+    ) -> Result<(), Trouble> {
+        let case = &self.case;
+        let heap = case.heap;
+        let mut table = classes;
+        for _ in 0..=case.book.nodes {
+            let step = session.step();
+            match after_step(case, &table, step)? {
+                Stepped::Stable => return hold_roles(case, session, self.coarsest),
+                Stepped::Split(next) => table = next,
+                Stepped::Wrong => {
+                    let what = format!(in heap; "a step from {table:?} gives {step:?}");
+                    return Err(case.differs(what));
+                }
+            }
+            case.hold("table after a step", session.table(), table.as_slice())?;
+            hold_roles(case, session, &table)?;
+        }
+        Err(case.differs(format!(in heap; "steps do not end")))
+    }
+}
+
+impl Trial for Settling<'_> {
+    fn run<N: Editable + Drop, M: Measure + Copy>(
+        &mut self,
+        network: N,
+        measure: M,
+    ) -> Result<(), Trouble> {
+        let case = &self.case;
+        let mut session = Open::new(network, measure);
+        self.draw(&mut session)?;
+        hold_vets(case, session.network(), &measure, self.vetted)?;
+        let settled = session.settle();
+        hold_roles(case, &settled, self.coarsest)?;
+        let classes = in_order(case.heap, case.book.colours())?;
+        self.hold_numbers(&settled, &classes)?;
+        hold_question(case, &settled)?;
+        let mut session = settled.reopen();
+        case.hold("a step of the settled", session.step(), Step::Stable)?;
+        // A colour brings the table back to the starting classes, also where it was so before.
+        let first = case.book.colours().first().copied().unwrap_or(0);
+        case.hold("colour again", session.colour(0, first), Ok(()))?;
+        case.hold("table after a colour", session.table(), classes.as_slice())?;
+        hold_roles(case, &session, &classes)?;
+        self.step_through(&mut session, classes)
+    }
+}
