@@ -85,7 +85,7 @@ fn write_begin<W: fmt::Write>(case: &Case, f: &mut fmt::Formatter<W>) -> fmt::Re
     let nodes = case.book.nodes;
     match case.shape {
         Shape::Sides(a) => writeln!(f, "NT {a} {}", nodes.saturating_sub(a))?,
-        Shape::List(slots) => writeln!(f, "NL {nodes} {slots}")?,
+        Shape::List(slots) | Shape::Layers(slots) => writeln!(f, "NL {nodes} {slots}")?,
         Shape::Matrix | Shape::Turned | Shape::NoLoops => writeln!(f, "NM {nodes}")?,
     }
     f.write_str(match case.weighing {
@@ -106,7 +106,7 @@ fn write_ties<W: fmt::Write>(book: &Book, i: usize, f: &mut fmt::Formatter<W>) -
     Ok(())
 }
 
-// A layer is written as the matrix that it means.
+// A layer is written as the matrix or the list that it means.
 impl fmt::Display for Case {
     fn fmt<W: fmt::Write>(&self, f: &mut fmt::Formatter<W>) -> fmt::Result {
         write_begin(self, f)?;

@@ -66,9 +66,11 @@ fn hold_on(heap: Global, shape: Shape, known: &Known) -> Result<(), Trouble> {
 fn shapes(heap: Global, known: &Known) -> Result<Vec<Shape>, AllocError> {
     let mut shapes = vec![in heap; Shape::Matrix, Shape::Turned, Shape::NoLoops]?;
     // A slot for each tie, and no more than a list must have.
-    shapes.push(Shape::List(known.ties.len().max(1)))?;
-    for a in 1..known.nodes {
-        let shape = Shape::Sides(a);
+    let slots = known.ties.len().max(1);
+    shapes.push(Shape::List(slots))?;
+    let layers = [Shape::Layers(slots)];
+    let sides = (1..known.nodes).map(Shape::Sides);
+    for shape in layers.into_iter().chain(sides) {
         if known.ties.iter().all(|&(i, j)| shape.allows(i, j)) {
             shapes.push(shape)?;
         }
@@ -105,6 +107,7 @@ fn hold_witness(heap: Global) -> Result<(), Trouble> {
         Shape::NoLoops,
         Shape::Sides(1),
         Shape::List(1),
+        Shape::Layers(1),
     ];
     for shape in shapes {
         let drawing = Drawing::of(heap, shape, 3, &ties(heap, &[(0, 1)])?)?;

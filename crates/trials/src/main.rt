@@ -63,7 +63,7 @@ use std::process::ExitCode;
 use trouble::Trouble;
 
 // The families: the shape, and how many nodes, bytes and colours.
-const FAMILIES: [(Shape, usize, u8, u8); 22] = [
+const FAMILIES: [(Shape, usize, u8, u8); 24] = [
     (Shape::Matrix, 1, 2, 1),
     (Shape::Matrix, 2, 2, 2),
     (Shape::Matrix, 2, 4, 2),
@@ -82,6 +82,8 @@ const FAMILIES: [(Shape, usize, u8, u8); 22] = [
     (Shape::List(2), 2, 2, 2),
     (Shape::List(2), 3, 2, 3),
     (Shape::List(4), 3, 2, 3),
+    (Shape::Layers(6), 3, 2, 3),
+    (Shape::Layers(2), 3, 2, 3),
     (Shape::Sides(1), 2, 2, 2),
     (Shape::Sides(1), 3, 2, 3),
     (Shape::Sides(2), 3, 2, 3),
@@ -90,7 +92,7 @@ const FAMILIES: [(Shape, usize, u8, u8); 22] = [
 ];
 
 // The shapes on which lists of calls are driven, with the seed of their dice.
-const LISTED: [(Shape, u64); 10] = [
+const LISTED: [(Shape, u64); 11] = [
     (Shape::Matrix, 1),
     (Shape::Turned, 2),
     (Shape::NoLoops, 3),
@@ -101,6 +103,7 @@ const LISTED: [(Shape, u64); 10] = [
     (Shape::List(1), 8),
     (Shape::List(2), 9),
     (Shape::List(3), 10),
+    (Shape::Layers(3), 11),
 ];
 
 // Every small network.

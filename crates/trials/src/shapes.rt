@@ -28,6 +28,8 @@ pub(crate) enum Shape {
     Sides(usize),
     /// The list with so many slots.
     List(usize),
+    /// The layers no-loops and turned over such a list.
+    Layers(usize),
 }
 
 impl fmt::Display for Shape {
@@ -39,6 +41,7 @@ impl fmt::Display for Shape {
             Shape::Sides(a) => write!(f, "two-mode network with {a} on side A"),
             Shape::List(1) => f.write_str("list of 1 slot"),
             Shape::List(slots) => write!(f, "list of {slots} slots"),
+            Shape::Layers(slots) => write!(f, "turned list of {slots} slots without loops"),
         }
     }
 }
@@ -47,7 +50,7 @@ impl Shape {
     pub(crate) fn allows(self, i: usize, j: usize) -> bool {
         match self {
             Shape::Matrix | Shape::Turned | Shape::List(_) => true,
-            Shape::NoLoops => i != j,
+            Shape::NoLoops | Shape::Layers(_) => i != j,
             Shape::Sides(a) => i < a && j >= a,
         }
     }
@@ -55,7 +58,7 @@ impl Shape {
     // How many pairs may be tied at a time.
     fn cap(self, nodes: usize) -> usize {
         match self {
-            Shape::List(slots) => slots,
+            Shape::List(slots) | Shape::Layers(slots) => slots,
             Shape::Sides(a) => a.saturating_mul(nodes.saturating_sub(a)),
             Shape::Matrix | Shape::Turned | Shape::NoLoops => nodes.saturating_mul(nodes),
         }
@@ -75,8 +78,8 @@ impl Shape {
     /// The least number of nodes.
     pub(crate) fn fewest(self) -> usize {
         match self {
-            Shape::Matrix | Shape::Turned | Shape::NoLoops | Shape::List(_) => 1,
             Shape::Sides(a) => a.saturating_add(1),
+            _ => 1,
         }
     }
 
@@ -85,7 +88,7 @@ impl Shape {
         match self {
             Shape::Turned => tie.from < tie.to,
             Shape::NoLoops => tie.from == tie.to,
-            Shape::Matrix | Shape::Sides(_) | Shape::List(_) => false,
+            Shape::Matrix | Shape::Sides(_) | Shape::List(_) | Shape::Layers(_) => false,
         }
     }
 }
@@ -128,6 +131,17 @@ fn matrix_below(case: &Case, drawing: &Drawing) -> Result<Matrix, Trouble> {
     Ok(matrix)
 }
 
+// A list over slots that held something before.
+fn list(case: &Case, slots: usize) -> Result<SlotList, Trouble> {
+    let heap = case.heap;
+    let slot = Slot::Taken {
+        from: 0,
+        to: 0,
+        byte: 7,
+    };
+    Ok(SlotList::new(case.book.nodes, vec![in heap; slot; slots]?))
+}
+
 /// The trial of the network of the case's shape and size, with the ties that are put below.
 pub(crate) fn run_on<T: Trial>(
     case: &Case,
@@ -145,18 +159,7 @@ pub(crate) fn run_on<T: Trial>(
             let memory = vec![in heap; 7; a.saturating_mul(b)]?;
             run_by(case, TwoMode::new(a, b, memory), trial)
         }
-        Shape::List(slots) => {
-            // What the slots held before is nothing.
-            let slot = Slot::Taken {
-                from: 0,
-                to: 0,
-                byte: 7,
-            };
-            run_by(
-                case,
-                SlotList::new(nodes, vec![in heap; slot; slots]?),
-                trial,
-            )
-        }
+        Shape::List(slots) => run_by(case, list(case, slots)?, trial),
+        Shape::Layers(slots) => run_by(case, Turned(NoLoops(list(case, slots)?)), trial),
     }
 }
