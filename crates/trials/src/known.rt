@@ -24,8 +24,8 @@ fn ties(heap: Global, pairs: &[(usize, usize)]) -> Result<Vec<Tie>, AllocError> 
         .collect(heap)
 }
 
-// The model finds the table that is known, where its nodes are few enough for all tables.
-fn hold_model(case: &Case, known: &Known) -> Result<(), Trouble> {
+// The model finds the table that is known.
+fn hold_model(case: &Case, known: &Known, tables: &[Vec<u8>]) -> Result<(), Trouble> {
     let heap = case.heap;
     case.hold("the known table", role_count(known.table), known.roles)?;
     let classes = role_count(case.book.colours());
@@ -34,10 +34,7 @@ fn hold_model(case: &Case, known: &Known) -> Result<(), Trouble> {
         known.roles.saturating_sub(classes),
         known.splits,
     )?;
-    if known.nodes > 5 {
-        return Ok(());
-    }
-    let search = Search::among(case, &all_tables(heap, known.nodes)?)?;
+    let search = Search::among(case, tables)?;
     let found = search.coarsest(case.book.colours());
     if !found.is_some_and(|table| same_roles(table, known.table)) {
         return Err(case.differs(format!(in heap; "the model finds {found:?}")));
@@ -45,19 +42,16 @@ fn hold_model(case: &Case, known: &Known) -> Result<(), Trouble> {
     Ok(())
 }
 
-// Settles the network on a shape.
-fn hold_on(heap: Global, shape: Shape, known: &Known) -> Result<(), Trouble> {
+// Settles the network on a shape, and vets every table of so many nodes.
+fn hold_on(heap: Global, shape: Shape, known: &Known, tables: &[Vec<u8>]) -> Result<(), Trouble> {
     let drawing = Drawing::of(heap, shape, known.nodes, &ties(heap, known.ties)?)?;
     let case = Case::of(heap, known.weighing, &drawing).coloured(known.colours);
-    hold_model(&case, known)?;
-    let mut table = Vec::new(heap);
-    table.extend_from_slice(known.table)?;
-    let regular = vec![in heap; table]?;
+    hold_model(&case, known, tables)?;
     let mut settling = Settling {
         case,
         drawing: &drawing,
         coarsest: known.table,
-        vetted: &regular,
+        vetted: tables,
     };
     settling.hold()
 }
@@ -140,10 +134,11 @@ fn hold_one_slot(heap: Global) -> Result<(), Trouble> {
 pub(crate) fn hold_known(heap: Global) -> Result<Counts, Trouble> {
     let mut counts = Counts::default();
     for known in &KNOWN {
+        let tables = all_tables(heap, known.nodes)?;
         for &shape in shapes(heap, known)?.iter() {
-            hold_on(heap, shape, known)?;
+            hold_on(heap, shape, known, &tables)?;
             counts.settled = counts.settled.saturating_add(1);
-            counts.vetted = counts.vetted.saturating_add(1);
+            counts.vetted = counts.vetted.saturating_add(tables.len());
         }
         counts.networks = counts.networks.saturating_add(1);
     }
