@@ -1,5 +1,5 @@
 // A small question, put to a settled session and held against the truth.
-use super::case::Case;
+use super::case::{At, Case};
 use super::tables::head;
 use super::totals::Weighing;
 use super::trouble::Trouble;
@@ -72,9 +72,8 @@ fn hold_agreement(case: &Case, question: &[Line], table: &[u8], row: &[u8]) -> R
     let rows = truths(case, question)?;
     let last = rows.last().map_or(&[][..], |row| row.as_slice());
     for (x, (&role, &truth)) in table.iter().zip(last.iter()).enumerate() {
-        case.hold_at(
-            "ask at the role of node",
-            x,
+        case.hold(
+            At("ask at the role of node", x),
             row.get(usize::from(role)),
             Some(&truth),
         )?;

@@ -53,7 +53,7 @@ impl Case {
     /// Holds what the engine gave, when asked this, against what it was to give.
     pub(crate) fn hold<T: PartialEq + fmt::Debug + Drop>(
         self,
-        asked: &str,
+        asked: impl fmt::Display + Drop,
         given: T,
         wanted: T,
     ) -> Result<(), Trouble> {
@@ -63,20 +63,15 @@ impl Case {
         let heap = self.heap;
         Err(self.differs(format!(in heap; "{asked} gives {given:?}, and not {wanted:?}")))
     }
+}
 
-    /// The same, where a number was handed.
-    pub(crate) fn hold_at<T: PartialEq + fmt::Debug + Drop>(
-        self,
-        asked: &str,
-        at: usize,
-        given: T,
-        wanted: T,
-    ) -> Result<(), Trouble> {
-        if given == wanted {
-            return Ok(());
-        }
-        let heap = self.heap;
-        Err(self.differs(format!(in heap; "{asked}({at}) gives {given:?}, and not {wanted:?}")))
+/// A call that was handed a number.
+#[derive(Clone, Copy)]
+pub(crate) struct At<'a>(pub(crate) &'a str, pub(crate) usize);
+
+impl fmt::Display for At<'_> {
+    fn fmt<W: fmt::Write>(&self, f: &mut fmt::Formatter<W>) -> fmt::Result {
+        write!(f, "{}({})", self.0, self.1)
     }
 }
 
@@ -120,7 +115,7 @@ impl fmt::Display for Case {
     }
 }
 
-// What differs in one line, and then the script.
+// A script: what differs, as a remark, and then the network.
 impl fmt::Display for Difference {
     fn fmt<W: fmt::Write>(&self, f: &mut fmt::Formatter<W>) -> fmt::Result {
         let Case {
@@ -128,7 +123,7 @@ impl fmt::Display for Difference {
             weighing,
             ..
         } = self.case;
-        writeln!(f, "on a {shape}, by {weighing}: {}", self.what)?;
+        writeln!(f, "RM on a {shape}, by {weighing}: {}", self.what)?;
         let script = &self.case;
         write!(f, "{script}")
     }

@@ -1,5 +1,5 @@
 // One list of calls, driven by the engine and replayed by the model.
-use super::case::Case;
+use super::case::{At, Case};
 use super::counts::Tried;
 use super::replay::Replay;
 use super::shapes::Trial;
@@ -85,7 +85,7 @@ fn hold_last<N: Editable, M: Measure>(
     for i in 0..case.book.nodes {
         for j in 0..case.book.nodes {
             let given = settled.network().tie(i, j);
-            case.hold_at("the last tie of node", i, given, case.book.tie(i, j))?;
+            case.hold(At("the last tie of node", i), given, case.book.tie(i, j))?;
         }
     }
     hold_roles(case, settled, table)

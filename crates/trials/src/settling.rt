@@ -1,7 +1,7 @@
 // A network settled from one colouring, whole and step by step, with a question put to its roles.
 use super::asking::hold_question;
 use super::book::Tie;
-use super::case::Case;
+use super::case::{At, Case};
 use super::drawing::Drawing;
 use super::shapes::{Trial, run_on};
 use super::steps::{Stepped, after_step};
@@ -41,11 +41,11 @@ impl Settling<'_> {
         for &Tie { from, to, byte } in &self.drawing.puts {
             let wanted = book.put(from, to, byte);
             let given = session.put(from, to, byte);
-            self.case.hold_at("a put from node", from, given, wanted)?;
+            self.case.hold(At("a put from node", from), given, wanted)?;
         }
         for (x, &colour) in self.case.book.colours().iter().enumerate() {
             let given = session.colour(x, colour);
-            self.case.hold_at("colour", x, given, Ok(()))?;
+            self.case.hold(At("colour", x), given, Ok(()))?;
         }
         Ok(())
     }
@@ -60,7 +60,7 @@ impl Settling<'_> {
             if head(classes, class) == Some(x) {
                 let number = usize::from(class);
                 let given = settled.role_of(x);
-                self.case.hold_at("role_of", x, given, Ok(number))?;
+                self.case.hold(At("role_of", x), given, Ok(number))?;
             }
         }
         Ok(())

@@ -1,5 +1,5 @@
 // What a session tells of its roles, held against the table that it is to have.
-use super::case::Case;
+use super::case::{At, Case};
 use super::steps::label;
 use super::tables::{head, role_count, same_roles, size};
 use super::trouble::Trouble;
@@ -23,57 +23,47 @@ pub(crate) trait Tells {
     fn numbers(&self) -> &[u8];
 }
 
-impl<N: Editable, M: Measure> Tells for Open<N, M> {
-    fn count(&self) -> usize {
-        self.roles()
-    }
+macro_rules! tells {
+    ($session:ident) => {
+        impl<N: Editable, M: Measure> Tells for $session<N, M> {
+            fn count(&self) -> usize {
+                self.roles()
+            }
 
-    fn split_count(&self) -> usize {
-        self.splits()
-    }
+            fn split_count(&self) -> usize {
+                self.splits()
+            }
 
-    fn number_of(&self, x: usize) -> Result<usize, Fault> {
-        self.role_of(x)
-    }
+            fn number_of(&self, x: usize) -> Result<usize, Fault> {
+                self.role_of(x)
+            }
 
-    fn record(&self, r: usize) -> Result<Role, Fault> {
-        self.role(r)
-    }
+            fn record(&self, r: usize) -> Result<Role, Fault> {
+                self.role(r)
+            }
 
-    fn numbers(&self) -> &[u8] {
-        self.table()
-    }
+            fn numbers(&self) -> &[u8] {
+                self.table()
+            }
+        }
+    };
 }
 
-impl<N: Editable, M: Measure> Tells for Settled<N, M> {
-    fn count(&self) -> usize {
-        self.roles()
-    }
+tells!(Open);
 
-    fn split_count(&self) -> usize {
-        self.splits()
-    }
-
-    fn number_of(&self, x: usize) -> Result<usize, Fault> {
-        self.role_of(x)
-    }
-
-    fn record(&self, r: usize) -> Result<Role, Fault> {
-        self.role(r)
-    }
-
-    fn numbers(&self) -> &[u8] {
-        self.table()
-    }
-}
+tells!(Settled);
 
 // The role of each node, and of what is none.
 fn hold_nodes<S: Tells>(case: &Case, session: &S) -> Result<(), Trouble> {
     for (x, &role) in session.numbers().iter().enumerate() {
-        case.hold_at("role_of", x, session.number_of(x), Ok(usize::from(role)))?;
+        case.hold(
+            At("role_of", x),
+            session.number_of(x),
+            Ok(usize::from(role)),
+        )?;
     }
     let n = case.book.nodes;
-    case.hold_at("role_of", n, session.number_of(n), Err(Fault::Node))
+    case.hold(At("role_of", n), session.number_of(n), Err(Fault::Node))
 }
 
 // The head and the size of each role, and of what is none.
@@ -87,9 +77,9 @@ fn hold_records<S: Tells>(case: &Case, session: &S) -> Result<(), Trouble> {
             return Err(case.differs(format!(in heap; "no node has role {r}")));
         };
         let size = size(table, role);
-        case.hold_at("role", r, session.record(r), Ok(Role { head, size }))?;
+        case.hold(At("role", r), session.record(r), Ok(Role { head, size }))?;
     }
-    case.hold_at("role", count, session.record(count), Err(Fault::Role))
+    case.hold(At("role", count), session.record(count), Err(Fault::Role))
 }
 
 /// Holds all that a session tells: these nodes are to be together, whatever the roles' numbers.
