@@ -23,35 +23,49 @@ pub(crate) trait Tells {
     fn numbers(&self) -> &[u8];
 }
 
-macro_rules! tells {
-    ($session:ident) => {
-        impl<N: Editable, M: Measure> Tells for $session<N, M> {
-            fn count(&self) -> usize {
-                self.roles()
-            }
+impl<N: Editable, M: Measure> Tells for Open<N, M> {
+    fn count(&self) -> usize {
+        self.roles()
+    }
 
-            fn split_count(&self) -> usize {
-                self.splits()
-            }
+    fn split_count(&self) -> usize {
+        self.splits()
+    }
 
-            fn number_of(&self, x: usize) -> Result<usize, Fault> {
-                self.role_of(x)
-            }
+    fn number_of(&self, x: usize) -> Result<usize, Fault> {
+        self.role_of(x)
+    }
 
-            fn record(&self, r: usize) -> Result<Role, Fault> {
-                self.role(r)
-            }
+    fn record(&self, r: usize) -> Result<Role, Fault> {
+        self.role(r)
+    }
 
-            fn numbers(&self) -> &[u8] {
-                self.table()
-            }
-        }
-    };
+    fn numbers(&self) -> &[u8] {
+        self.table()
+    }
 }
 
-tells!(Open);
+impl<N: Editable, M: Measure> Tells for Settled<N, M> {
+    fn count(&self) -> usize {
+        self.roles()
+    }
 
-tells!(Settled);
+    fn split_count(&self) -> usize {
+        self.splits()
+    }
+
+    fn number_of(&self, x: usize) -> Result<usize, Fault> {
+        self.role_of(x)
+    }
+
+    fn record(&self, r: usize) -> Result<Role, Fault> {
+        self.role(r)
+    }
+
+    fn numbers(&self) -> &[u8] {
+        self.table()
+    }
+}
 
 // The role of each node, and of what is none.
 fn hold_nodes<S: Tells>(case: &Case, session: &S) -> Result<(), Trouble> {
