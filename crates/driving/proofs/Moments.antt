@@ -1,20 +1,21 @@
--- What is so at each moment of a run. Assumes nothing.
-use Rattle.std.proofs.Common.{rules, ◌≡◌, ℕ, zero, suc, ◌+◌, ◌<◌, ◌≤◌, true, cond, List, length, refl, sym, ap, subst, inl, inr, ◌∙◌, arith}
+-- What is so at each moment of a run.
+use Rattle.std.proofs.Common.{rules, ◌≡◌, ℕ, zero, suc, ◌+◌, ◌<◌, ◌≤◌, true, List, length, refl, sym, ap, subst, inl, inr, ◌∙◌, arith}
 use Rattle.std.proofs.lemmas.Bool.{cases_lt}
 use Rattle.std.proofs.lemmas.Option.{slice_get_within}
 use Rattle.network.specs.Meaning.{Meaning}
 use Rattle.measure.specs.Measures.{Operations}
 use Rattle.session.specs.States.{KeepsRoles, role_count}
 use Rattle.driving.specs.Book.{Book, book_in}
-use Rattle.driving.specs.Courses.{Course, takes, book_after}
+use Rattle.driving.specs.Courses.{Course, course_after, course_before}
 use Rattle.driving.specs.Laws.{Still, Rests, Finds}
-use Rattle.driving.specs.Runs.{At, Run, course_before}
+use Rattle.driving.specs.Promise.{At, RunTo}
 use Rattle.driving.specs.Turns.{Turn}
 use Rattle.driving.specs.declared.call.Exchange.{Exchange}
 use Rattle.driving.proofs.Running.{at_some, course_next}
-use Rattle.driving.proofs.Turning.{Best, book_same, booked, best_settled, best_found, best_rests, heads_stay, quiet}
+use Rattle.driving.proofs.Turning as turning
+use Rattle.driving.proofs.Turning.{Best}
 
-module _ {V : Type 0} (o : Operations V) (m : Meaning) (given done : List Exchange) (run : Run o m given done) where
+module _ {V : Type 0} (o : Operations V) (m : Meaning) (given done : List Exchange) (run : RunTo o m given done (length given)) where
   abbrev course : ℕ → Course
   course = course_before m given
 
@@ -34,43 +35,36 @@ module _ {V : Type 0} (o : Operations V) (m : Meaning) (given done : List Exchan
         | inr past ↦ let is : i ≡ suc k = omega (arith, past) in subst P is start
       ]
 
-  -- ties and colours are those of the book of the moment
-  pub books : (k : ℕ) → k ≤ length given → book_in (run.state k) ≡ (course k).book
-  books k within =
-      along (λ j. book_in (run.state j) ≡ (course j).book) 0 (book_same run.begun.network run.begun.colours) k (omega arith) within
-      (λ j e d a b here there was.
-      booked o (run.state j) (run.state (j + 1)) e.area.now d.reply d.area.now (course j).settled e.call (turn_at j e d here there)
-      ∙ ap (λ (b : Book). cond (takes (course j).settled e.call) (book_after b e.call) b) was
-      ∙ sym (ap (λ (c : Course). c.book) (course_next m given j e here)))
-
   -- a settled session has the coarsest table
-  pub bests : (k : ℕ) → k ≤ length given → (course k).settled ≡ true → Best o (run.state k)
-  bests k within =
+  pub settled_best : (k : ℕ) → k ≤ length given → (course k).settled ≡ true → Best o (run.state k)
+  settled_best k within =
       along (λ j. (course j).settled ≡ true → Best o (run.state j)) 0 (λ e. absurd (search rules)) k (omega arith) within
       (λ j e d a b here there was settled.
-      best_settled o (run.state j) (run.state (j + 1)) e.area.now d.reply d.area.now (course j).settled e.call (turn_at j e d here there) was
-      (sym (ap (λ (c : Course). c.settled) (course_next m given j e here)) ∙ settled))
+      turning.settled_best o (run.state j) (run.state (j + 1)) e.area.now d.reply d.area.now (course j).settled e.call (turn_at j e d here there) was
+      (ap (λ b. (course_after (record { settled = (course j).settled; book = b }) e.call).settled) (run.book j (omega (arith, b, within)))
+      ∙ sym (ap (λ (c : Course). c.settled) (course_next m given j e here))
+      ∙ settled))
 
   -- while replies are quiet, the state stays
   pub still_same : (i k : ℕ) → k ≤ length given → Still given done i k → run.state k ≡ run.state i
   still_same i k within (l, quiets) =
       along (λ j. run.state j ≡ run.state i) i refl k l within
       (λ j e d a b here there was.
-      quiet o (run.state j) (run.state (j + 1)) e.area.now d.reply d.area.now (course j).settled e.call (turn_at j e d here there) (quiets j d a b there) ∙ was)
+      turning.quiet o (run.state j) (run.state (j + 1)) e.area.now d.reply d.area.now (course j).settled e.call (turn_at j e d here there) (quiets j d a b there) ∙ was)
 
   -- once the coarsest table is found, it stays until a put or a colour is accepted
-  pub rests_best : (j k : ℕ) → j < k → k ≤ length given → Finds given done j → Rests given done (j + 1) k → Best o (run.state k)
-  rests_best j k l within (e, d, here, there, finds) rests =
+  pub found_best : (j k : ℕ) → k ≤ length given → Finds given done j → Rests given done (j + 1) k → Best o (run.state k)
+  found_best j k within (e, d, here, there, found) (l, rests) =
       along (λ i. Best o (run.state i)) (j + 1)
-      (best_found o (run.state j) (run.state (j + 1)) e.area.now d.reply d.area.now (course j).settled e.call (turn_at j e d here there) (run.sound j (omega (arith, l, within))) (bests j (omega (arith, l, within))) finds)
-      k (omega (arith, l)) within
+      (turning.found_best o (run.state j) (run.state (j + 1)) e.area.now d.reply d.area.now (course j).settled e.call (turn_at j e d here there) (run.sound j (omega (arith, l, within))) (settled_best j (omega (arith, l, within))) found)
+      k l within
       (λ i f c a b at at_done was.
-      best_rests o (run.state i) (run.state (i + 1)) f.area.now c.reply c.area.now (course i).settled f.call (turn_at i f c at at_done) was (rests i c a b at_done))
+      turning.rests_best o (run.state i) (run.state (i + 1)) f.area.now c.reply c.area.now (course i).settled f.call (turn_at i f c at at_done) (rests i c a b at_done) was)
 
-  -- and so do the numbers and the heads of roles
-  pub rests_heads : (i k : ℕ) → i ≤ k → k ≤ length given → Rests given done i k → KeepsRoles (run.state i) (run.state k)
-  rests_heads i k l within rests r known =
+  -- and so do heads
+  pub rests_heads : (i k : ℕ) → k ≤ length given → Rests given done i k → KeepsRoles (run.state i) (run.state k)
+  rests_heads i k within (l, rests) r known =
       along (λ j. (r < role_count (run.state j)) × ((run.state j).head r ≡ (run.state i).head r)) i (known, refl) k l within
       (λ j e d a b here there was.
-      let (more, same) = heads_stay o (run.state j) (run.state (j + 1)) e.area.now d.reply d.area.now (course j).settled e.call (turn_at j e d here there) (rests j d a b there) r was.0 in
+      let (more, same) = turning.rests_heads o (run.state j) (run.state (j + 1)) e.area.now d.reply d.area.now (course j).settled e.call (turn_at j e d here there) (rests j d a b there) r was.0 in
       (more, same ∙ was.1))

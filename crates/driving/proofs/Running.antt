@@ -1,4 +1,4 @@
--- A run goes on by one call. Assumes nothing.
+-- A run goes on by one call.
 use Rattle.std.proofs.Common.{◌≡◌, ℕ, zero, suc, ◌+◌, ◌<◌, ◌≤◌, true, false, cond, ltb, Ok, List, [], ◌∷◌, length, get_or, set, Some, refl, sym, ap, subst, inl, inr, ◌∙◌, get_or-set_same, get_or-set_other, length-set, arith}
 use Rattle.std.proofs.lemmas.Bool.{cases_eq, cases_lt}
 use Rattle.std.proofs.lemmas.Bool.Decides.{nat_tests}
@@ -9,12 +9,15 @@ use Rattle.network.specs.Meaning.{Meaning}
 use Rattle.measure.specs.Measures.{Operations}
 use Rattle.session.specs.Sessions.{Begun}
 use Rattle.session.specs.States.{State, IsSound}
-use Rattle.driving.specs.Courses.{course_after}
-use Rattle.driving.specs.Runs.{At, KeepsCall, RunTo, calls_of, course_before}
+use Rattle.driving.specs.Book.{Book, book_in}
+use Rattle.driving.specs.Courses.{Course, calls_of, course_after, course_before}
+use Rattle.driving.specs.Promise.{At, KeepsCall, RunTo}
 use Rattle.driving.specs.Turns.{Turn}
 use Rattle.driving.specs.declared.call.Call.{Call}
 use Rattle.driving.specs.declared.call.Exchange.{Exchange}
 use Rattle.driving.specs.declared.call.Reply.{Reply}
+use Rattle.driving.specs.declared.call.Edit.{Edit}
+use Rattle.driving.proofs.Turning.{book_same, booked}
 
 -- the element at a place within the list
 pub at_within : (es : List Exchange) (d : Exchange) (k : ℕ) → k < length es → At es k (get_or es k d)
@@ -47,7 +50,7 @@ course_next m given k e here =
 
 -- what the check takes for an exchange off the list
 abbrev pub none : Exchange
-none = record { call = Call.Put 0 0 0; area = record { ref_ptr = (0, 0); ghost_name = 0; now = [] }; reply = Reply.Put (Ok tt) }
+none = record { call = Call.Edit (Edit.Put 0 0 0); area = record { ref_ptr = (0, 0); ghost_name = 0; now = [] }; reply = Reply.Put (Ok tt) }
 
 -- before any call
 pub run_begun : {V : Type 0} (o : Operations V) (m : Meaning) (given : List Exchange) (s : State) → Begun m (λ _. 0) s → IsSound o s → (run : RunTo o m given given 0) × (run.state 0 ≡ s)
@@ -57,8 +60,9 @@ run_begun o m given s begun sound = (
     keeps = λ k e d here there. let same = at_same given k d e there here in record { call = ap (λ (x : Exchange). x.call) same; area = ap (λ (x : Exchange). x.area.ghost_name) same };
     state = λ _. s;
     begun = begun;
-    sound = λ k l. sound;
     turn = λ k e d l here there. absurd (omega (arith, l));
+    book = λ k l. let is : k ≡ 0 = omega (arith, l) in rw is (book_same begun.network begun.colours);
+    sound = λ k l. sound;
   },
   refl,
 )
@@ -74,6 +78,13 @@ module _ {V : Type 0} (o : Operations V) (m : Meaning) (given done : List Exchan
   state_last : states (k + 1) ≡ next
   state_last = let t : ltb k (k + 1) ≡ true = grind (arith, nat_tests) in rw t refl
 
+  next_book : Turn o (course_before m given k).settled e.call (run.state k) next e.area.now d.reply d.area.now → book_in next ≡ (course_before m given (k + 1)).book
+  next_book turn =
+      let course = course_before m given k in
+      booked o (run.state k) next e.area.now d.reply d.area.now course.settled e.call turn
+      ∙ ap (λ b. (course_after (record { settled = course.settled; book = b }) e.call).book) (run.book k (omega arith))
+      ∙ sym (ap (λ (c : Course). c.book) (course_next m given k e here))
+
   pub run_next : KeepsCall e d → Turn o (course_before m given k).settled e.call (run.state k) next e.area.now d.reply d.area.now → IsSound o next → (more : RunTo o m given (set done k d) (k + 1)) × (more.state (k + 1) ≡ next)
   run_next keeps turn sound =
       let inside : k < length done = omega (arith, run.one_each) in (
@@ -86,11 +97,6 @@ module _ {V : Type 0} (o : Operations V) (m : Meaning) (given done : List Exchan
               ];
           state = states;
           begun = rw (so_far 0 (omega arith)) run.begun;
-          sound = λ j l.
-              elim (cases_lt j (k + 1)) [
-                | inl old ↦ rw (so_far j (omega (arith, old))) (run.sound j (omega (arith, old)))
-                | inr new ↦ let is : j ≡ k + 1 = omega (arith, l, new) in rw (is, state_last) sound
-              ];
           turn = λ j f c l at at_done.
               elim (cases_eq j k) [
                 | inl same ↦
@@ -100,6 +106,16 @@ module _ {V : Type 0} (o : Operations V) (m : Meaning) (given done : List Exchan
                 | inr other ↦
                     let under : j < k = omega (arith, l, other) in
                     rw (so_far j (omega (arith, under)), so_far (j + 1) (omega (arith, under))) (run.turn j f c under at (at_other done k d inside j c other at_done))
+              ];
+          book = λ j l.
+              elim (cases_lt j (k + 1)) [
+                | inl old ↦ rw (so_far j (omega (arith, old))) (run.book j (omega (arith, old)))
+                | inr new ↦ let is : j ≡ k + 1 = omega (arith, l, new) in rw (is, state_last) (next_book turn)
+              ];
+          sound = λ j l.
+              elim (cases_lt j (k + 1)) [
+                | inl old ↦ rw (so_far j (omega (arith, old))) (run.sound j (omega (arith, old)))
+                | inr new ↦ let is : j ≡ k + 1 = omega (arith, l, new) in rw (is, state_last) sound
               ];
         },
         state_last,

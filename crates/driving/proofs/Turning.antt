@@ -1,158 +1,176 @@
--- What a call makes of a session, by its turn. Assumes nothing.
-use Rattle.std.proofs.Common.{rules, ◌≡◌, ℕ, ◌<◌, Bool, true, false, cond, List, Result, Ok, Err, MatchBool, refl, sym, ap, subst, inl, inr, ◌⊎◌, arith}
+-- What a call makes of a session, by its turn.
+use Rattle.std.proofs.Common.{rules, ◌≡◌, ℕ, ◌<◌, Bool, true, false, List, Result, Ok, Err, refl, sym, ap, subst, inl, inr, ◌⊎◌, arith}
 use Rattle.network.specs.Meaning.{Meaning}
-use Rattle.measure.specs.Measures.{Operations, Laws}
+use Rattle.measure.specs.Measures.{Operations}
 use Rattle.equivalence.specs.Regular.{Table}
 use Rattle.equivalence.specs.Coarsest.{Coarsest}
-use Rattle.equivalence.proofs.Levels.{coarsest_named}
 use Rattle.equivalence.proofs.Refinement.{coarsest_settled}
-use Rattle.equivalence.specs.Levels.{coarsest_table}
-use Rattle.equivalence.specs.Vetted.{table_of}
 use Rattle.session.specs.Sessions.{Edited}
 use Rattle.session.specs.States.{IsSound, KeepsRoles, State, role, role_count}
 use Rattle.session.specs.Steps.{Stepped}
 use Rattle.session.specs.declared.step.Step as step
 use Rattle.session.specs.declared.step.Step.TheVariants.{Stable, Split}
 use Rattle.driving.specs.Book.{Book, book_in}
-use Rattle.driving.specs.Courses.{takes, settled_after, book_after}
+use Rattle.driving.specs.Courses.{Course, course_after}
 use Rattle.driving.specs.Laws.{restarts, is_quiet}
-use Rattle.driving.specs.Turns.{Gives, Does, Turn}
+use Rattle.driving.specs.Turns.{Edits, Moves, Turn}
 use Rattle.driving.specs.declared.call.Call.{Call}
-use Rattle.driving.specs.declared.call.Call.TheVariants.{Put, Colour, Step, Settle}
+use Rattle.driving.specs.declared.call.Call.TheVariants as calls
+use Rattle.driving.specs.declared.call.Edit.{Edit}
+use Rattle.driving.specs.declared.call.Edit.TheVariants.{Put, Colour}
+use Rattle.driving.specs.declared.call.Move.{Move}
+use Rattle.driving.specs.declared.call.Move.TheVariants.{Step, Settle, Reopen}
+use Rattle.driving.specs.declared.call.Write.{Write}
+use Rattle.driving.specs.declared.call.Write.TheVariants.{Look, Ask}
 use Rattle.driving.specs.declared.call.Reply.{Reply}
+use Rattle.driving.specs.declared.call.Reply.TheVariants as replies
 
 pub book_same : {m n : Meaning} {a b : Table} → m ≡ n → a ≡ b → ◌≡◌ {A = Book} (record { network = m; colours = a }) (record { network = n; colours = b })
 book_same e d = λ i. record { network = e i; colours = d i }
 
-pub gives : {Altered : Type 0} {reply answer : Reply} {after left : List ℕ} → reply ≡ answer → after ≡ left → Altered → Gives answer left Altered reply after
-gives replied area state = record { replied = replied; area = area; state = state }
+-- an edit that is refused
+put_refused : (a : Result (Unit {0}) _) (m : Meaning) (colours : Table) (s t : State) → restarts (Reply.Put a) ≡ false → Edited a m colours s t → t ≡ s
+put_refused (Ok tt) m colours s t e did = absurd (search rules)
+put_refused (Err f) m colours s t e did = did.refused
 
--- the state after a put or a colour, by what it answers
-pub edited : {F : Type 0} (r answer : Result (Unit {0}) F) (m : Meaning) (classes : Table) (s t : State) → r ≡ answer → Edited r m classes s t → Edited answer m classes s t
-edited r answer m classes s t is did = subst (λ a. Edited a m classes s t) is did
+colour_refused : (a : Result (Unit {0}) _) (m : Meaning) (colours : Table) (s t : State) → restarts (Reply.Colour a) ≡ false → Edited a m colours s t → t ≡ s
+colour_refused (Ok tt) m colours s t e did = absurd (search rules)
+colour_refused (Err f) m colours s t e did = did.refused
 
--- by a choice between two facts, the choice between two values
-chosen : {X P Q : Type 0} (b : Bool) (v x y : X) → (P → v ≡ x) → (Q → v ≡ y) → MatchBool b P Q → v ≡ cond b x y
-chosen true v x y if_so if_not fact = if_so fact
-chosen false v x y if_so if_not fact = if_not fact
+edit_refused : (c : Edit) (s t : State) (r : Reply) → Edits c s t r → restarts r ≡ false → t ≡ s
+edit_refused (Put i j b) s t r did e = put_refused _ _ _ s t (rw did.0 at e) did.1
+edit_refused (Colour i c) s t r did e = colour_refused _ _ _ s t (rw did.0 at e) did.1
 
--- a put or a colour that is refused
-put_refused : (a : Result (Unit {0}) _) (m : Meaning) (classes : Table) (s t : State) → restarts (Reply.Put a) ≡ false → Edited a m classes s t → t ≡ s
-put_refused (Ok tt) m classes s t e did = absurd (search rules)
-put_refused (Err f) m classes s t e did = did.refused
+edit_book : (c : Edit) (s t : State) (r : Reply) → Edits c s t r → book_in t ≡ (course_after (record { settled = false; book = book_in s }) (Call.Edit c)).book
+edit_book (Put i j b) s t r did = book_same did.1.network did.1.colours
+edit_book (Colour i c) s t r did = book_same did.1.network did.1.colours
 
-colour_refused : (a : Result (Unit {0}) _) (m : Meaning) (classes : Table) (s t : State) → restarts (Reply.Colour a) ≡ false → Edited a m classes s t → t ≡ s
-colour_refused (Ok tt) m classes s t e did = absurd (search rules)
-colour_refused (Err f) m classes s t e did = did.refused
-
-quiet_edit : (r : Reply) → is_quiet r ≡ true → restarts r ≡ false
-quiet_edit (Reply.Put (Ok tt)) e = absurd (search rules)
-quiet_edit (Reply.Colour (Ok tt)) e = absurd (search rules)
-quiet_edit other e = refl
+quiet_rests : (r : Reply) → is_quiet r ≡ true → restarts r ≡ false
+quiet_rests (replies.Put (Ok tt)) e = absurd (search rules)
+quiet_rests (replies.Colour (Ok tt)) e = absurd (search rules)
+quiet_rests other e = refl
 
 module _ {V : Type 0} (o : Operations V) where
   -- the table of a state is the coarsest of its ties and colours
   abbrev pub Best : State → Type 0
   Best s = Coarsest o s.network s.colours (role s)
 
-  -- and then heads are the names that levels give
-  pub heads_computed : Laws o → (s : State) → IsSound o s → Best s → (x : ℕ) → x < s.network.nodes → s.head (role s x) ≡ table_of (coarsest_table o s.network s.colours) x
-  heads_computed laws s sound best x l =
-      let told = sound.described (role s x) (sound.ranged x l) in
-      coarsest_named o laws s.network s.colours (role s) best x (s.head (role s x)) l (record { mate = told.mate; lowest = told.lowest })
+  module _ (s t : State) where
+    move_book : (c : Move) (r : Reply) → Moves o c s t r → book_in t ≡ book_in s
+    move_book Step (replies.Step Stable) did = ap book_in did.1
+    move_book Step (replies.Step (Split part toward fresh)) did = book_same did.1.network did.1.colours
+    move_book Step other did = absurd did
+    move_book Settle r did = book_same did.1.network did.1.colours
+    move_book Reopen r did = ap book_in did.1
 
-  stepped_quiet : (s t : State) (did : step.Step) → is_quiet (Reply.Step did) ≡ true → Stepped o s t did → t ≡ s
-  stepped_quiet s t Stable e is = is
-  stepped_quiet s t (Split part toward fresh) e is = absurd (search rules)
+    -- a move that alters the table says so
+    move_quiet : (c : Move) (r : Reply) → Moves o c s t r → is_quiet r ≡ true → t ≡ s
+    move_quiet Step (replies.Step Stable) did e = did.1
+    move_quiet Step other did e = absurd (search rules)
+    move_quiet Settle r did e = absurd (search rules)
+    move_quiet Reopen r did e = did.1
 
-  stepped_stable : (s t : State) (did : step.Step) → did ≡ Stable → Stepped o s t did → t ≡ s
-  stepped_stable s t did e is = subst (λ d. Stepped o s t d) e is
-
-  stepped_book : (s t : State) (did : step.Step) → Stepped o s t did → book_in t ≡ book_in s
-  stepped_book s t Stable is = ap book_in is
-  stepped_book s t (Split part toward fresh) is = book_same is.network is.colours
-
-  module _ (s t : State) (area : List ℕ) (r : Reply) (after : List ℕ) where
-    does_book : (c : Call) → Does o c s t area r after → book_in t ≡ book_after (book_in s) c
-    does_book (Put i j b) did = book_same did.state.network did.state.colours
-    does_book (Colour i c) did = book_same did.state.network did.state.colours
-    does_book Step did = stepped_book s t did.0 did.2.state
-    does_book Settle did = book_same did.state.network did.state.colours
-    does_book other did = ap book_in did.state
-
-    -- the book is fed what is taken
-    pub booked : (settled : Bool) (c : Call) → Turn o settled c s t area r after → book_in t ≡ cond (takes settled c) (book_after (book_in s) c) (book_in s)
-    booked settled c turn = chosen (takes settled c) _ _ _ (does_book c) (λ not_taken. ap book_in not_taken.state) turn
-
-    -- no call alters a settled session
-    settled_still : (c : Call) → Turn o true c s t area r after → t ≡ s
-    settled_still (Put i j b) turn = turn.state
-    settled_still other turn = turn.state
-
-    -- a quiet reply
-    quiet_open : (c : Call) → Turn o false c s t area r after → is_quiet r ≡ true → t ≡ s
-    quiet_open (Put i j b) turn e = put_refused _ _ _ s t (rw turn.replied at (quiet_edit r e)) turn.state
-    quiet_open (Colour i c) turn e = colour_refused _ _ _ s t (rw turn.replied at (quiet_edit r e)) turn.state
-    quiet_open Step turn e = stepped_quiet s t turn.0 (rw turn.2.replied at e) turn.2.state
-    quiet_open Settle turn e = absurd (search rules)
-    quiet_open other turn e = turn.state
-
-    pub quiet : (settled : Bool) (c : Call) → Turn o settled c s t area r after → is_quiet r ≡ true → t ≡ s
-    quiet true c turn e = settled_still c turn
-    quiet false c turn e = quiet_open c turn e
-
+    -- no edit, and of the moves none but a step that says stable, keeps what it was asked of the coarsest table
     same_best : t ≡ s → Best s → Best t
     same_best same best = subst Best (sym same) best
 
-    -- a session that is not settled, and after the call is
-    settles : (c : Call) → Turn o false c s t area r after → settled_after false c ≡ true → Best t
-    settles Settle turn e = turn.state.coarsest
-    settles other turn e = absurd (search rules)
+    move_best : (c : Move) (r : Reply) → Moves o c s t r → Best s → Best t
+    move_best Step (replies.Step Stable) did best = same_best did.1 best
+    move_best Step (replies.Step (Split part toward fresh)) did best = absurd (search rules)
+    move_best Step other did best = absurd did
+    move_best Settle r did best = did.1.coarsest
+    move_best Reopen r did best = same_best did.1 best
 
-    -- a settled session has the coarsest table
-    pub best_settled : (settled : Bool) (c : Call) → Turn o settled c s t area r after → (settled ≡ true → Best s) → settled_after settled c ≡ true → Best t
-    best_settled true c turn was e = same_best (settled_still c turn) (was refl)
-    best_settled false c turn was e = settles c turn e
-
-    -- a coarsest table stays, until a put or a colour is accepted
-    rests_open : (c : Call) → Turn o false c s t area r after → Best s → restarts r ≡ false → Best t
-    rests_open (Put i j b) turn best e = same_best (put_refused _ _ _ s t (rw turn.replied at e) turn.state) best
-    rests_open (Colour i c) turn best e = same_best (colour_refused _ _ _ s t (rw turn.replied at e) turn.state) best
-    rests_open Step turn best e = same_best (stepped_stable s t turn.0 (turn.1.1 best.regular) turn.2.state) best
-    rests_open Settle turn best e = turn.state.coarsest
-    rests_open other turn best e = same_best turn.state best
-
-    pub best_rests : (settled : Bool) (c : Call) → Turn o settled c s t area r after → Best s → restarts r ≡ false → Best t
-    best_rests true c turn best e = same_best (settled_still c turn) best
-    best_rests false c turn best e = rests_open c turn best e
-
-    -- until a put or a colour is accepted, a role keeps its number and its head
     heads_same : t ≡ s → KeepsRoles s t
     heads_same same r l = (omega (arith, l, ap role_count same), ap (λ x. x.head r) same)
 
-    heads_split : (did : step.Step) → Stepped o s t did → KeepsRoles s t
-    heads_split Stable is = heads_same is
-    heads_split (Split part toward fresh) is = is.roles
+    move_heads : (c : Move) (r : Reply) → Moves o c s t r → KeepsRoles s t
+    move_heads Step (replies.Step Stable) did = heads_same did.1
+    move_heads Step (replies.Step (Split part toward fresh)) did = did.1.roles
+    move_heads Step other did = absurd did
+    move_heads Settle r did = did.1.roles
+    move_heads Reopen r did = heads_same did.1
 
-    heads_open : (c : Call) → Turn o false c s t area r after → restarts r ≡ false → KeepsRoles s t
-    heads_open (Put i j b) turn e = heads_same (put_refused _ _ _ s t (rw turn.replied at e) turn.state)
-    heads_open (Colour i c) turn e = heads_same (colour_refused _ _ _ s t (rw turn.replied at e) turn.state)
-    heads_open Step turn e = heads_split turn.0 turn.2.state
-    heads_open Settle turn e = turn.state.roles
-    heads_open other turn e = heads_same turn.state
+    stable_best : (c : Move) → Moves o c s t (Reply.Step Stable) → IsSound o s → Best t
+    stable_best Step did sound = same_best did.1 (coarsest_settled o s.network s.colours (role s) sound.between (did.0.0 refl))
+    stable_best other did sound = absurd (search rules)
 
-    pub heads_stay : (settled : Bool) (c : Call) → Turn o settled c s t area r after → restarts r ≡ false → KeepsRoles s t
-    heads_stay true c turn e = heads_same (settled_still c turn)
-    heads_stay false c turn e = heads_open c turn e
+  module _ (s t : State) (area : List ℕ) (r : Reply) (after : List ℕ) where
+    -- a call that is not a move and no edit leaves the state as it is, and so does one that is not taken
+    write_same : (settled : Bool) (c : Write) → Turn o settled (Call.Write c) s t area r after → t ≡ s
+    write_same settled (Look q) turn = turn.2
+    write_same true (Ask q) turn = turn.2
+    write_same false (Ask q) turn = turn.2
 
-    -- a step that says stable
-    stable_open : (c : Call) → Turn o false c s t area r after → IsSound o s → r ≡ Reply.Step Stable → Best t
-    stable_open Step turn sound e =
-        let told : turn.0 ≡ Stable = search rules in
-        same_best (stepped_stable s t turn.0 told turn.2.state) (coarsest_settled o s.network s.colours (role s) sound.between (turn.1.0 told))
-    stable_open other turn sound e = absurd (search rules)
+    -- no call alters a settled session
+    settled_same : (c : Call) → Turn o true c s t area r after → t ≡ s
+    settled_same (calls.Edit e) turn = turn.2
+    settled_same (calls.Move Step) turn = turn.2
+    settled_same (calls.Move Settle) turn = turn.2
+    settled_same (calls.Move Reopen) turn = turn.0.1
+    settled_same (calls.Write c) turn = write_same true c turn
+    settled_same (calls.Tell c) turn = turn.2
 
-    pub best_found : (settled : Bool) (c : Call) → Turn o settled c s t area r after → IsSound o s → (settled ≡ true → Best s) → (c ≡ Call.Settle) ⊎ (r ≡ Reply.Step Stable) → Best t
-    best_found true c turn sound was finds = same_best (settled_still c turn) (was refl)
-    best_found false c turn sound was (inl e) = settles c turn (ap (settled_after false) e)
-    best_found false c turn sound was (inr e) = stable_open c turn sound e
+    -- the course goes on by the call
+    pub booked : (settled : Bool) (c : Call) → Turn o settled c s t area r after → book_in t ≡ (course_after (record { settled = settled; book = book_in s }) c).book
+    booked true (calls.Edit e) turn = ap book_in turn.2
+    booked false (calls.Edit e) turn = edit_book e s t r turn.0
+    booked true (calls.Move Step) turn = ap book_in turn.2
+    booked true (calls.Move Settle) turn = ap book_in turn.2
+    booked true (calls.Move Reopen) turn = ap book_in turn.0.1
+    booked false (calls.Move Step) turn = move_book s t Step r turn.0
+    booked false (calls.Move Settle) turn = move_book s t Settle r turn.0
+    booked false (calls.Move Reopen) turn = ap book_in turn.2
+    booked settled (calls.Write c) turn = ap book_in (write_same settled c turn)
+    booked settled (calls.Tell c) turn = ap book_in turn.2
+
+    -- a quiet reply
+    pub quiet : (settled : Bool) (c : Call) → Turn o settled c s t area r after → is_quiet r ≡ true → t ≡ s
+    quiet true c turn e = settled_same c turn
+    quiet false (calls.Edit c) turn e = edit_refused c s t r turn.0 (quiet_rests r e)
+    quiet false (calls.Move Step) turn e = move_quiet s t Step r turn.0 e
+    quiet false (calls.Move Settle) turn e = move_quiet s t Settle r turn.0 e
+    quiet false (calls.Move Reopen) turn e = turn.2
+    quiet false (calls.Write c) turn e = write_same false c turn
+    quiet false (calls.Tell c) turn e = turn.2
+
+    -- until a put or a colour is accepted, a coarsest table stays
+    pub rests_best : (settled : Bool) (c : Call) → Turn o settled c s t area r after → restarts r ≡ false → Best s → Best t
+    rests_best true c turn e best = same_best s t (settled_same c turn) best
+    rests_best false (calls.Edit c) turn e best = same_best s t (edit_refused c s t r turn.0 e) best
+    rests_best false (calls.Move Step) turn e best = move_best s t Step r turn.0 best
+    rests_best false (calls.Move Settle) turn e best = move_best s t Settle r turn.0 best
+    rests_best false (calls.Move Reopen) turn e best = same_best s t turn.2 best
+    rests_best false (calls.Write c) turn e best = same_best s t (write_same false c turn) best
+    rests_best false (calls.Tell c) turn e best = same_best s t turn.2 best
+
+    -- and so do heads
+    pub rests_heads : (settled : Bool) (c : Call) → Turn o settled c s t area r after → restarts r ≡ false → KeepsRoles s t
+    rests_heads true c turn e = heads_same s t (settled_same c turn)
+    rests_heads false (calls.Edit c) turn e = heads_same s t (edit_refused c s t r turn.0 e)
+    rests_heads false (calls.Move Step) turn e = move_heads s t Step r turn.0
+    rests_heads false (calls.Move Settle) turn e = move_heads s t Settle r turn.0
+    rests_heads false (calls.Move Reopen) turn e = heads_same s t turn.2
+    rests_heads false (calls.Write c) turn e = heads_same s t (write_same false c turn)
+    rests_heads false (calls.Tell c) turn e = heads_same s t turn.2
+
+    -- a settled session has the coarsest table
+    pub settled_best : (settled : Bool) (c : Call) → Turn o settled c s t area r after → (settled ≡ true → Best s) → (course_after (record { settled = settled; book = book_in s }) c).settled ≡ true → Best t
+    settled_best true c turn was e = same_best s t (settled_same c turn) (was refl)
+    settled_best false (calls.Move Settle) turn was e = turn.0.1.coarsest
+    settled_best false (calls.Write (Look q)) turn was e = absurd (search rules)
+    settled_best false (calls.Write (Ask q)) turn was e = absurd (search rules)
+    settled_best false other turn was e = absurd (search rules)
+
+    -- and so has one behind a settle, or a step that says stable
+    pub found_best : (settled : Bool) (c : Call) → Turn o settled c s t area r after → IsSound o s → (settled ≡ true → Best s) → (c ≡ Call.Move Settle) ⊎ (r ≡ Reply.Step Stable) → Best t
+    found_best true c turn sound was found = same_best s t (settled_same c turn) (was refl)
+    found_best false (calls.Move Settle) turn sound was found = turn.0.1.coarsest
+    found_best false (calls.Move Step) turn sound was (inr e) = stable_best s t Step (rw e at turn.0) sound
+    found_best false other turn sound was (inl e) = absurd (search rules)
+    found_best false (calls.Edit (Put i j b)) turn sound was (inr e) = absurd (search rules)
+    found_best false (calls.Edit (Colour i c)) turn sound was (inr e) = absurd (search rules)
+    found_best false (calls.Move Reopen) turn sound was (inr e) = absurd (search rules)
+    found_best false (calls.Write (Look q)) turn sound was (inr e) = absurd (search rules)
+    found_best false (calls.Write (Ask q)) turn sound was (inr e) = absurd (search rules)
+    found_best false (calls.Tell c) turn sound was (inr e) = absurd (search rules)

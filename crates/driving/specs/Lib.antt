@@ -1,7 +1,6 @@
 pub mod Book
 pub mod Courses
 pub mod Turns
-pub mod Runs
 pub mod Laws
 pub mod States
 pub mod Promise

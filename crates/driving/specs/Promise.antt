@@ -1,65 +1,70 @@
--- The promise, of the state of a settled session and the book after its calls. Assumes nothing.
+-- The promise: of a settled session, and of a list of calls.
 --
---   Driven       from the starting classes on, each call of the list did what it has to do, one after another; then the session was settled
---   KeepsBook    ties and colours are those of the book, and the table is regular and within the starting classes
---   Coarse       every other regular table within the starting classes has at least as many roles, each inside one of this table's
---   Answers      a question put to the roles has the network's answer
+-- What a reader has to know first, in this order, is imported below in this order: what a network means, a measure's
+-- operations, a regular table, the coarsest one, where question and answer stand in an area, what a session holds,
+-- how it begins and ends, the book, and what each call does.
 --
--- The starting classes and the totals are the book's, and nothing here is of a particular network or measure.
--- What each call replies, and so which put and colour is refused and with which number, is in the run (Runs, Turns), and what holds in every run in Laws.
-use Rattle.std.specs.Prelude.{◌≡◌, ℕ, ◌+◌, ◌<◌, ◌≤◌, true, false, cond, List, length, slice_index, Ok}
+--   Promise      a session has the ties and colours of the book and the coarsest table, and its roles answer as the network does
+--   At           the exchange at place k of a list
+--   KeepsCall    an exchange that is done still has its call, and is lent the same area
+--   RunTo        what the first n calls of a list do, one after another, from the making on
+--   Driven       what all of them do, and then a settle
+use Rattle.std.specs.Prelude.{◌≡◌, ℕ, ◌+◌, ◌<◌, ◌≤◌, true, false, List, length, slice_get, slice_index, Ok, Some}
 use Rattle.network.specs.Meaning.{Meaning}
 use Rattle.measure.specs.Measures.{Operations}
-use Rattle.equivalence.specs.Regular.{Table, Regular}
-use Rattle.equivalence.specs.Coarsest.{Refines, roles}
-use Rattle.equivalence.specs.Levels.{coarsest_table}
-use Rattle.equivalence.specs.Vetted.{table_of}
-use Rattle.question.specs.Checks.{answer_start}
-use Rattle.question.specs.Truth.{answer, each_node}
-use Rattle.question.specs.Areas.{looked, asked}
+use Rattle.equivalence.specs.Regular.{Regular}
+use Rattle.equivalence.specs.Coarsest.{Coarsest}
 use Rattle.question.specs.declared.line.Line.{Line}
-use Rattle.session.specs.Sessions.{Ended}
-use Rattle.session.specs.States.{State, IsSound, role, role_count}
-use Rattle.driving.specs.Book.{Book}
-use Rattle.driving.specs.Runs.{Run, course_before}
+use Rattle.session.specs.States.{State, IsSound, role}
+use Rattle.session.specs.Questions.{look_answer, ask_answer, after_look, after_ask, AnswersNodes, AnswersRoles}
+use Rattle.session.specs.Sessions.{Begun, Ended}
+use Rattle.driving.specs.Book.{Book, book_in}
+use Rattle.driving.specs.Courses.{course_before}
+use Rattle.driving.specs.Turns.{Turn}
 use Rattle.driving.specs.declared.call.Exchange.{Exchange}
 
--- given and done: the exchanges before the calls and after them; s: the state of the session that is given back
+pub record Promise {V : Type 0} (o : Operations V) (book : Book) (s : State) : Type 0 where
+  -- ties and colours are the book's
+  pub ties : s.network ≡ book.network
+  pub colours : s.colours ≡ book.colours
+  -- the table is regular and within the starting classes, and every other such table lies inside it
+  pub coarsest : Coarsest o s.network s.colours (role s)
+  -- a question that is admitted has for a node's role, where ask leaves it, what it has for the node, where look leaves it
+  pub answers :
+      (lines : List Line) (asked looked : List ℕ) (i j x : ℕ)
+      → ask_answer s lines asked ≡ Ok i
+      → look_answer s lines looked ≡ Ok j
+      → x < s.network.nodes
+      → slice_index (after_ask o s lines asked) (i + role s x) ≡ slice_index (after_look o s lines looked) (j + x)
+  -- and in each row, that is what its line is true of on the network
+  pub looks : (lines : List Line) (area : List ℕ) (j : ℕ) → look_answer s lines area ≡ Ok j → AnswersNodes o s lines j (after_look o s lines area)
+  pub asks : (lines : List Line) (area : List ℕ) (i : ℕ) → ask_answer s lines area ≡ Ok i → AnswersRoles o s lines i (after_ask o s lines area)
+
+abbrev pub At : List Exchange → ℕ → Exchange → Type 0
+At exchanges k e = slice_get exchanges k ≡ Some e
+
+pub record KeepsCall (given done : Exchange) : Type 0 where
+  pub call : done.call ≡ given.call
+  pub area : done.area.ghost_name ≡ given.area.ghost_name
+
+-- given: the exchanges before the calls, done: after the first n of them
+pub record RunTo {V : Type 0} (o : Operations V) (m : Meaning) (given done : List Exchange) (n : ℕ) : Type 0 where
+  pub one_each : length done ≡ length given
+  pub keeps : (k : ℕ) (e d : Exchange) → At given k e → At done k d → KeepsCall e d
+  -- the state before call k
+  pub state : ℕ → State
+  pub begun : Begun m (λ _. 0) (state 0)
+  -- call k takes it to the next
+  pub turn : (k : ℕ) (e d : Exchange) → k < n → At given k e → At done k d → Turn o (course_before m given k).settled e.call (state k) (state (k + 1)) e.area.now d.reply d.area.now
+  -- ties and colours are those of the book of the moment, whatever was refused
+  pub book : (k : ℕ) → k ≤ n → book_in (state k) ≡ (course_before m given k).book
+  -- and each state is one that a session can be in
+  pub sound : (k : ℕ) → k ≤ n → IsSound o (state k)
+
+-- s: the state of the session that is given back
 pub record Driven {V : Type 0} (o : Operations V) (m : Meaning) (given done : List Exchange) (s : State) : Type 0 where
-  pub run : Run o m given done
+  pub run : RunTo o m given done (length given)
   pub sound : IsSound o s
   -- a session that was settled already is the one that is given back, and one that was open is settled
   pub settled : (course_before m given (length given)).settled ≡ true → s ≡ run.state (length given)
   pub ended : (course_before m given (length given)).settled ≡ false → Ended o (run.state (length given)) s
-
-module _ {V : Type 0} (o : Operations V) (book : Book) (s : State) where
-  abbrev n : ℕ
-  n = book.network.nodes
-
-  pub record KeepsBook : Type 0 where
-    pub ties : s.network ≡ book.network
-    pub colours : s.colours ≡ book.colours
-    pub regular : Regular o book.network (role s)
-    pub within : Refines n (role s) book.colours
-
-  pub record Coarse : Type 0 where
-    pub fewest : (other : Table) → Regular o book.network other → Refines n other book.colours → role_count s ≤ roles other n
-    pub inside : (other : Table) → Regular o book.network other → Refines n other book.colours → Refines n other (role s)
-    -- and it is the computed one: the head of a node's role is the node's entry there
-    pub computed : (x : ℕ) → x < n → s.head (role s x) ≡ table_of (coarsest_table o book.network book.colours) x
-
-  -- of every question that passes its checks
-  pub record Answers : Type 0 where
-    -- the last row of look has each node's answer
-    pub look :
-        (lines : List Line) (area : List ℕ) (start x : ℕ)
-        → answer_start lines n (length area) ≡ Ok start
-        → x < n
-        → slice_index (looked o book.network book.colours lines area) (start + x) ≡ cond (answer o book.network book.colours each_node lines x) 1 0
-    -- the last row of ask has for each node's role what the last row of look has for the node
-    pub ask :
-        (lines : List Line) (asked_area looked_area : List ℕ) (i j x : ℕ)
-        → answer_start lines (role_count s) (length asked_area) ≡ Ok i
-        → answer_start lines n (length looked_area) ≡ Ok j
-        → x < n
-        → slice_index (asked o book.network book.colours (role s) s.head lines asked_area) (i + role s x) ≡ slice_index (looked o book.network book.colours lines looked_area) (j + x)

@@ -14,7 +14,8 @@ use Rattle.session.specs.States.{State}
 use Rattle.driving.specs.Book.{book_in}
 use Rattle.driving.specs.Courses.{Course}
 use Rattle.driving.specs.declared.call.Call.{Call}
-use Rattle.driving.specs.declared.call.Call.TheVariants.{Put}
+use Rattle.driving.specs.declared.call.Call.TheVariants as calls
+use Rattle.driving.specs.declared.call.Edit.TheVariants.{Put}
 use Rattle.driving.specs.declared.state.Session.{Session}
 use Rattle.driving.specs.declared.state.Session.TheVariants.{Open, Settled}
 
@@ -35,5 +36,5 @@ module _ {N M V : Type 0} {r : readable.Ghosts N} {g : measure.Ghosts M V} where
   course_in s = record { settled = is_settled s; book = book_in (state_in s) }
 
 abbrev pub is_put : Call → Bool
-is_put (Put i j b) = true
+is_put (calls.Edit (Put i j b)) = true
 is_put other = false

@@ -9,19 +9,51 @@ use session::faults::Fault as SessionFault;
 use session::role::Role;
 use session::step::Step;
 
-/// A call, with its arguments.
+/// A call with its arguments, by its kind.
 #[derive(Clone, Copy)]
 pub enum Call<'a> {
+    /// Alters ties or colours. An open session takes it.
+    Edit(Edit),
+    /// Moves the session on. An open session takes step and settle, a settled one reopen.
+    Move(Move),
+    /// Writes into the area that is lent. Either takes look, a settled session ask.
+    Write(Write<'a>),
+    /// Tells of the table. Either takes it.
+    Tell(Tell),
+}
+
+/// A call that alters ties or colours.
+#[derive(Clone, Copy)]
+pub enum Edit {
+    /// The tie byte from one node to another becomes this.
     Put(usize, usize, u8),
+    /// The node becomes of this colour.
     Colour(usize, u8),
+}
+
+/// A call that moves a session on.
+#[derive(Clone, Copy)]
+pub enum Move {
     Step,
     Settle,
     Reopen,
+}
+
+/// A call that writes rows into an area.
+#[derive(Clone, Copy)]
+pub enum Write<'a> {
     Look(&'a [Line]),
     Ask(&'a [Line]),
+}
+
+/// A call that alters nothing and writes nothing.
+#[derive(Clone, Copy)]
+pub enum Tell {
     Roles,
     Splits,
+    /// Of a node.
     RoleOf(usize),
+    /// Of a role.
     Role(usize),
 }
 

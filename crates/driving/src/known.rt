@@ -1,14 +1,59 @@
 // The small networks with known tables.
-ghost use Rattle.std.specs.Prelude.{◌≡◌, length};
-ghost use Rattle.driving.specs.Known.{known_networks, AllKnown};
+ghost use Rattle.driving.specs.Known.{AllKnown};
 
-/// How many entries there are: twelve, for nine small networks, one for each measure under which
-/// the table is known.
-/// It is proved of each that its edits answer as told, and that the table is then the coarsest,
-/// with so many roles after so many splits.
-pub fn known_networks() -> usize
-    ensures count { result ≡ length known_networks }
-    ensures known { AllKnown }
+use super::call::{Edit, Reply};
+
+// Their ties, colours and tables.
+mod networks;
+
+use networks::NETWORKS;
+
+/// A small network whose coarsest table is known.
+#[derive(Clone, Copy)]
+pub struct KnownNetwork {
+    pub start: Start,
+    /// The puts and colours that draw it, one after another, each with what it replies.
+    pub edits: &'static [(Edit, Reply)],
+    pub weighing: Weighing,
+    /// The coarsest table: for each node the head of its role.
+    pub table: &'static [u8],
+    /// How many roles it has.
+    pub roles: usize,
+    /// How many splits lead to it from the starting classes.
+    pub splits: usize,
+    /// Tables that are not regular.
+    pub irregular: &'static [Irregular],
+}
+
+/// A network without ties.
+#[derive(Clone, Copy)]
+pub enum Start {
+    /// A matrix of so many nodes.
+    Matrix(usize),
+    /// So many nodes on each side.
+    TwoMode(usize, usize),
+    /// A list of so many nodes and slots.
+    List(usize, usize),
+}
+
+/// The measure by which it is weighed.
+#[derive(Clone, Copy)]
+pub enum Weighing {
+    Kinds,
+    Bundles,
+    Tally,
+}
+
+/// A table that is not regular, and the only three nodes that show it.
+#[derive(Clone, Copy)]
+pub struct Irregular {
+    pub table: &'static [u8],
+    pub witness: (usize, usize, usize),
+}
+
+/// The small networks, one entry for each measure under which the table is known.
+pub fn known_networks() -> [KnownNetwork; 12]
+    ensures { AllKnown result }
 {
-    12
+    NETWORKS
 }

@@ -4,11 +4,12 @@ ghost use Rattle.session.specs.OpenSessions.{parts_of, state_of};
 ghost use Rattle.session.specs.Sessions.{Ended};
 ghost use Rattle.session.specs.SettledSessions.{settled_parts, settled_state};
 ghost use Rattle.session.specs.States.{IsSound};
-ghost use Rattle.driving.specs.Courses.{course_after, settled_after};
+ghost use Rattle.driving.specs.Courses.{course_after};
 ghost use Rattle.driving.specs.States.{course_in, is_put, is_settled, parts_in, state_in};
-ghost use Rattle.driving.specs.Turns.{Turn};
+ghost use Rattle.driving.specs.Turns.{Edits, Turn, told};
+ghost use Rattle.driving.specs.declared.call.Call.{Call};
 
-use super::call::{Call, Reply};
+use super::call::{Call, Edit, Move, Reply, Tell, Write};
 use measure::interface::Measure;
 use network::interface::Editable;
 use session::open::Open;
@@ -21,55 +22,38 @@ pub enum Session<N: Editable, M: Measure> {
     Settled(Settled<N, M>),
 }
 
-// Gives an open session the call, where it takes it.
-fn call_open<N: Editable, M: Measure>(
-    mut session: Open<N, M>,
-    call: Call<'_>,
-    area: &mut [u8],
-) -> (Session<N, M>, Reply)
-    ensures settled { is_settled result.0 ≡ settled_after false call.entry }
-    ensures turn { let t = state_in result.0 in
-        Turn M.Measure.ops false call.entry (state_of session) t area.old result.1 area.new }
-    ensures measure { (parts_in result.0).1 ≡ (parts_of session).1 }
-    ensures network { is_put call.entry ≡ false → parts_in result.0 ≡ parts_of session }
+fn edit<N: Editable, M: Measure>(session: &mut Open<N, M>, change: Edit) -> Reply
+    ensures edits { Edits change (state_of session.old) (state_of session.new) result }
+    ensures measure { (parts_of session.new).1 ≡ (parts_of session.old).1 }
+    ensures network { is_put (Call.Edit change) ≡ false
+        → parts_of session.new ≡ parts_of session.old }
 {
-    let reply = match call {
-        Call::Put(i, j, b) => Reply::Put(session.put(i, j, b)),
-        Call::Colour(i, c) => Reply::Colour(session.colour(i, c)),
-        Call::Step => Reply::Step(session.step()),
-        Call::Settle => return (Session::Settled(session.settle()), Reply::Settled),
-        Call::Look(question) => Reply::Look(session.look(question, area)),
-        Call::Roles => Reply::Roles(session.roles()),
-        Call::Splits => Reply::Splits(session.splits()),
-        Call::RoleOf(x) => Reply::RoleOf(session.role_of(x)),
-        Call::Role(r) => Reply::Role(session.role(r)),
-        Call::Reopen | Call::Ask(_) => Reply::NotTaken,
-    };
-    (Session::Open(session), reply)
+    match change {
+        Edit::Put(i, j, b) => Reply::Put(session.put(i, j, b)),
+        Edit::Colour(i, c) => Reply::Colour(session.colour(i, c)),
+    }
 }
 
-// Gives a settled session the call, where it takes it.
-fn call_settled<N: Editable, M: Measure>(
-    session: Settled<N, M>,
-    call: Call<'_>,
-    area: &mut [u8],
-) -> (Session<N, M>, Reply)
-    ensures settled { is_settled result.0 ≡ settled_after true call.entry }
-    ensures turn { let t = state_in result.0 in
-        Turn M.Measure.ops true call.entry (settled_state session) t area.old result.1 area.new }
-    ensures parts { parts_in result.0 ≡ settled_parts session }
+fn tell_open<N: Editable, M: Measure>(session: &Open<N, M>, tell: Tell) -> Reply
+    ensures { result ≡ told (state_of session.now) tell }
 {
-    let reply = match call {
-        Call::Reopen => return (Session::Open(session.reopen()), Reply::Reopened),
-        Call::Look(question) => Reply::Look(session.look(question, area)),
-        Call::Ask(question) => Reply::Ask(session.ask(question, area)),
-        Call::Roles => Reply::Roles(session.roles()),
-        Call::Splits => Reply::Splits(session.splits()),
-        Call::RoleOf(x) => Reply::RoleOf(session.role_of(x)),
-        Call::Role(r) => Reply::Role(session.role(r)),
-        Call::Put(..) | Call::Colour(..) | Call::Step | Call::Settle => Reply::NotTaken,
-    };
-    (Session::Settled(session), reply)
+    match tell {
+        Tell::Roles => Reply::Roles(session.roles()),
+        Tell::Splits => Reply::Splits(session.splits()),
+        Tell::RoleOf(x) => Reply::RoleOf(session.role_of(x)),
+        Tell::Role(r) => Reply::Role(session.role(r)),
+    }
+}
+
+fn tell_settled<N: Editable, M: Measure>(session: &Settled<N, M>, tell: Tell) -> Reply
+    ensures { result ≡ told (settled_state session.now) tell }
+{
+    match tell {
+        Tell::Roles => Reply::Roles(session.roles()),
+        Tell::Splits => Reply::Splits(session.splits()),
+        Tell::RoleOf(x) => Reply::RoleOf(session.role_of(x)),
+        Tell::Role(r) => Reply::Role(session.role(r)),
+    }
 }
 
 impl<N: Editable, M: Measure> Session<N, M> {
@@ -82,9 +66,42 @@ impl<N: Editable, M: Measure> Session<N, M> {
         ensures measure { (parts_in result.0).1 ≡ (parts_in self).1 }
         ensures network { is_put call.entry ≡ false → parts_in result.0 ≡ parts_in self }
     {
-        match self {
-            Session::Open(session) => call_open(session, call, area),
-            Session::Settled(session) => call_settled(session, call, area),
+        match (self, call) {
+            (Session::Open(mut session), Call::Edit(change)) => {
+                let reply = edit(&mut session, change);
+                (Session::Open(session), reply)
+            }
+            (Session::Open(mut session), Call::Move(Move::Step)) => {
+                let step = session.step();
+                (Session::Open(session), Reply::Step(step))
+            }
+            (Session::Open(session), Call::Move(Move::Settle)) => {
+                (Session::Settled(session.settle()), Reply::Settled)
+            }
+            (Session::Settled(session), Call::Move(Move::Reopen)) => {
+                (Session::Open(session.reopen()), Reply::Reopened)
+            }
+            (Session::Open(session), Call::Write(Write::Look(question))) => {
+                let start = session.look(question, area);
+                (Session::Open(session), Reply::Look(start))
+            }
+            (Session::Settled(session), Call::Write(Write::Look(question))) => {
+                let start = session.look(question, area);
+                (Session::Settled(session), Reply::Look(start))
+            }
+            (Session::Settled(session), Call::Write(Write::Ask(question))) => {
+                let reply = Reply::Ask(session.ask(question, area));
+                (Session::Settled(session), reply)
+            }
+            (Session::Open(session), Call::Tell(tell)) => {
+                let reply = tell_open(&session, tell);
+                (Session::Open(session), reply)
+            }
+            (Session::Settled(session), Call::Tell(tell)) => {
+                let reply = tell_settled(&session, tell);
+                (Session::Settled(session), reply)
+            }
+            (session, _) => (session, Reply::NotTaken),
         }
     }
 

@@ -1,9 +1,12 @@
 // Lists of calls, with what they reply and what they leave.
-use super::call::{Call, Exchange, Reply};
+use super::call::{Call, Edit, Exchange, Move, Reply, Tell, Write};
 use super::drive::drive;
-use super::known::known_networks;
+use super::known::{KnownNetwork, Start, Weighing, known_networks};
 use equivalence::vetting::vet;
+use measure::bundles::Bundles;
+use measure::interface::Measure;
 use measure::kinds::Kinds;
+use measure::tally::Tally;
 use network::faults::Fault as NetworkFault;
 use network::interface::Editable;
 use network::matrix::Matrix;
@@ -58,33 +61,45 @@ fn each_call_has_its_reply(rt: HostRuntime) -> Result<(), Fail> {
     let heap = rt.alloc();
     let question = [Line::colour(1), Line::tied(0, 0)];
     let calls = [
-        (Call::Put(0, 1, 1), Reply::Put(Ok(()))),
-        (Call::Put(1, 3, 1), Reply::Put(Err(NetworkFault::Node))),
-        (Call::Colour(3, 1), Reply::Colour(Err(SessionFault::Node))),
-        (Call::Colour(1, 1), Reply::Colour(Ok(()))),
-        (Call::Ask(&question), Reply::NotTaken),
-        (Call::Reopen, Reply::NotTaken),
-        (Call::Look(&question), Reply::Look(Ok(3))),
-        (Call::Roles, Reply::Roles(2)),
+        (Call::Edit(Edit::Put(0, 1, 1)), Reply::Put(Ok(()))),
         (
-            Call::Step,
+            Call::Edit(Edit::Put(1, 3, 1)),
+            Reply::Put(Err(NetworkFault::Node)),
+        ),
+        (
+            Call::Edit(Edit::Colour(3, 1)),
+            Reply::Colour(Err(SessionFault::Node)),
+        ),
+        (Call::Edit(Edit::Colour(1, 1)), Reply::Colour(Ok(()))),
+        (Call::Write(Write::Ask(&question)), Reply::NotTaken),
+        (Call::Move(Move::Reopen), Reply::NotTaken),
+        (Call::Write(Write::Look(&question)), Reply::Look(Ok(3))),
+        (Call::Tell(Tell::Roles), Reply::Roles(2)),
+        (
+            Call::Move(Move::Step),
             Reply::Step(Step::Split {
                 part: 0,
                 toward: 1,
                 fresh: 2,
             }),
         ),
-        (Call::Splits, Reply::Splits(1)),
-        (Call::Settle, Reply::Settled),
-        (Call::Settle, Reply::NotTaken),
-        (Call::Put(1, 2, 1), Reply::NotTaken),
-        (Call::Colour(2, 1), Reply::NotTaken),
-        (Call::Step, Reply::NotTaken),
-        (Call::Roles, Reply::Roles(3)),
-        (Call::RoleOf(3), Reply::RoleOf(Err(SessionFault::Node))),
-        (Call::Role(3), Reply::Role(Err(SessionFault::Role))),
-        (Call::Reopen, Reply::Reopened),
-        (Call::Step, Reply::Step(Step::Stable)),
+        (Call::Tell(Tell::Splits), Reply::Splits(1)),
+        (Call::Move(Move::Settle), Reply::Settled),
+        (Call::Move(Move::Settle), Reply::NotTaken),
+        (Call::Edit(Edit::Put(1, 2, 1)), Reply::NotTaken),
+        (Call::Edit(Edit::Colour(2, 1)), Reply::NotTaken),
+        (Call::Move(Move::Step), Reply::NotTaken),
+        (Call::Tell(Tell::Roles), Reply::Roles(3)),
+        (
+            Call::Tell(Tell::RoleOf(3)),
+            Reply::RoleOf(Err(SessionFault::Node)),
+        ),
+        (
+            Call::Tell(Tell::Role(3)),
+            Reply::Role(Err(SessionFault::Role)),
+        ),
+        (Call::Move(Move::Reopen), Reply::Reopened),
+        (Call::Move(Move::Step), Reply::Step(Step::Stable)),
     ];
     let mut areas = [[7; 7]; 20];
     let mut exchanges = lent(heap, &calls, &mut areas)?;
@@ -107,40 +122,22 @@ fn a_put_after_settling_is_taken_once_the_session_is_open_again(
 ) -> Result<(), Fail> {
     let heap = rt.alloc();
     let calls = [
-        (Call::Put(0, 1, 1), Reply::Put(Ok(()))),
-        (Call::Settle, Reply::Settled),
-        (Call::Roles, Reply::Roles(3)),
-        (Call::Put(2, 1, 1), Reply::NotTaken),
-        (Call::Reopen, Reply::Reopened),
-        (Call::Put(2, 1, 1), Reply::Put(Ok(()))),
-        (Call::Settle, Reply::Settled),
-        (Call::Roles, Reply::Roles(2)),
-        (Call::Role(0), Reply::Role(Ok(Role { head: 0, size: 2 }))),
+        (Call::Edit(Edit::Put(0, 1, 1)), Reply::Put(Ok(()))),
+        (Call::Move(Move::Settle), Reply::Settled),
+        (Call::Tell(Tell::Roles), Reply::Roles(3)),
+        (Call::Edit(Edit::Put(2, 1, 1)), Reply::NotTaken),
+        (Call::Move(Move::Reopen), Reply::Reopened),
+        (Call::Edit(Edit::Put(2, 1, 1)), Reply::Put(Ok(()))),
+        (Call::Move(Move::Settle), Reply::Settled),
+        (Call::Tell(Tell::Roles), Reply::Roles(2)),
+        (
+            Call::Tell(Tell::Role(0)),
+            Reply::Role(Ok(Role { head: 0, size: 2 })),
+        ),
     ];
     let mut areas = [[]; 9];
     let mut exchanges = lent(heap, &calls, &mut areas)?;
     let settled = drive(matrix(heap, 3)?, Kinds, &mut exchanges);
-    assert_told(&rt, &exchanges, &calls);
-    assert_eq!(rt; vet(settled.network(), &Kinds, settled.table()), Ok(None));
-    Ok(())
-}
-
-#[test]
-fn a_list_with_one_slot_takes_one_pair_at_a_time(rt: HostRuntime) -> Result<(), Fail> {
-    let heap = rt.alloc();
-    let network = SlotList::new(3, vec![in heap; Slot::Free; 1]?);
-    let calls = [
-        (Call::Put(0, 1, 1), Reply::Put(Ok(()))),
-        (Call::Put(0, 2, 1), Reply::Put(Err(NetworkFault::Full))),
-        (Call::Put(0, 1, 0), Reply::Put(Ok(()))),
-        (Call::Put(0, 2, 1), Reply::Put(Ok(()))),
-        (Call::Settle, Reply::Settled),
-        (Call::Roles, Reply::Roles(3)),
-        (Call::Splits, Reply::Splits(2)),
-    ];
-    let mut areas = [[]; 7];
-    let mut exchanges = lent(heap, &calls, &mut areas)?;
-    let settled = drive(network, Kinds, &mut exchanges);
     assert_told(&rt, &exchanges, &calls);
     assert_eq!(rt; vet(settled.network(), &Kinds, settled.table()), Ok(None));
     Ok(())
@@ -159,22 +156,25 @@ fn each_question_has_an_area_of_its_own(rt: HostRuntime) -> Result<(), Fail> {
     ];
     let question = &lines[..];
     let calls = [
-        (Call::Put(0, 3, 1), Reply::Put(Ok(()))),
-        (Call::Put(1, 3, 1), Reply::Put(Ok(()))),
-        (Call::Put(3, 0, 1), Reply::Put(Err(NetworkFault::Pair))),
-        (Call::Look(question), Reply::Look(Ok(15))),
+        (Call::Edit(Edit::Put(0, 3, 1)), Reply::Put(Ok(()))),
+        (Call::Edit(Edit::Put(1, 3, 1)), Reply::Put(Ok(()))),
         (
-            Call::Look(&question[..0]),
+            Call::Edit(Edit::Put(3, 0, 1)),
+            Reply::Put(Err(NetworkFault::Pair)),
+        ),
+        (Call::Write(Write::Look(question)), Reply::Look(Ok(15))),
+        (
+            Call::Write(Write::Look(&question[..0])),
             Reply::Look(Err(QuestionFault::Lines)),
         ),
         (
-            Call::Look(&question[1..]),
+            Call::Write(Write::Look(&question[1..])),
             Reply::Look(Err(QuestionFault::Later(0))),
         ),
-        (Call::Settle, Reply::Settled),
-        (Call::Ask(question), Reply::Ask(Ok(9))),
+        (Call::Move(Move::Settle), Reply::Settled),
+        (Call::Write(Write::Ask(question)), Reply::Ask(Ok(9))),
         (
-            Call::Ask(&question[1..]),
+            Call::Write(Write::Ask(&question[1..])),
             Reply::Ask(Err(QuestionFault::Later(0))),
         ),
     ];
@@ -221,19 +221,19 @@ fn an_ask_answers_each_node_as_a_look_does(rt: HostRuntime) -> Result<(), Fail> 
     let roles = [0, 1, 0, 2];
     // Nodes 0 and 2 have a tie to node 1 until the session is open again.
     let calls = [
-        (Call::Put(0, 1, 1), Reply::Put(Ok(()))),
-        (Call::Put(2, 1, 1), Reply::Put(Ok(()))),
-        (Call::Settle, Reply::Settled),
-        (Call::RoleOf(0), Reply::RoleOf(Ok(roles[0]))),
-        (Call::RoleOf(1), Reply::RoleOf(Ok(roles[1]))),
-        (Call::Ask(&question), Reply::Ask(Ok(3))),
-        (Call::RoleOf(2), Reply::RoleOf(Ok(roles[2]))),
-        (Call::RoleOf(3), Reply::RoleOf(Ok(roles[3]))),
-        (Call::Look(&question), Reply::Look(Ok(4))),
-        (Call::Reopen, Reply::Reopened),
-        (Call::Put(2, 1, 0), Reply::Put(Ok(()))),
-        (Call::Put(3, 0, 1), Reply::Put(Ok(()))),
-        (Call::Settle, Reply::Settled),
+        (Call::Edit(Edit::Put(0, 1, 1)), Reply::Put(Ok(()))),
+        (Call::Edit(Edit::Put(2, 1, 1)), Reply::Put(Ok(()))),
+        (Call::Move(Move::Settle), Reply::Settled),
+        (Call::Tell(Tell::RoleOf(0)), Reply::RoleOf(Ok(roles[0]))),
+        (Call::Tell(Tell::RoleOf(1)), Reply::RoleOf(Ok(roles[1]))),
+        (Call::Write(Write::Ask(&question)), Reply::Ask(Ok(3))),
+        (Call::Tell(Tell::RoleOf(2)), Reply::RoleOf(Ok(roles[2]))),
+        (Call::Tell(Tell::RoleOf(3)), Reply::RoleOf(Ok(roles[3]))),
+        (Call::Write(Write::Look(&question)), Reply::Look(Ok(4))),
+        (Call::Move(Move::Reopen), Reply::Reopened),
+        (Call::Edit(Edit::Put(2, 1, 0)), Reply::Put(Ok(()))),
+        (Call::Edit(Edit::Put(3, 0, 1)), Reply::Put(Ok(()))),
+        (Call::Move(Move::Settle), Reply::Settled),
     ];
     let mut areas = [[7; 9]; 13];
     let mut exchanges = lent(heap, &calls, &mut areas)?;
@@ -259,13 +259,19 @@ fn the_network_without_nodes_takes_questions_only(rt: HostRuntime) -> Result<(),
     let heap = rt.alloc();
     let question = [Line::colour(0), Line::not(0)];
     let calls = [
-        (Call::Put(0, 0, 1), Reply::Put(Err(NetworkFault::Node))),
-        (Call::Colour(0, 1), Reply::Colour(Err(SessionFault::Node))),
-        (Call::Step, Reply::Step(Step::Stable)),
-        (Call::Look(&question), Reply::Look(Ok(0))),
-        (Call::Settle, Reply::Settled),
-        (Call::Ask(&question), Reply::Ask(Ok(0))),
-        (Call::Roles, Reply::Roles(0)),
+        (
+            Call::Edit(Edit::Put(0, 0, 1)),
+            Reply::Put(Err(NetworkFault::Node)),
+        ),
+        (
+            Call::Edit(Edit::Colour(0, 1)),
+            Reply::Colour(Err(SessionFault::Node)),
+        ),
+        (Call::Move(Move::Step), Reply::Step(Step::Stable)),
+        (Call::Write(Write::Look(&question)), Reply::Look(Ok(0))),
+        (Call::Move(Move::Settle), Reply::Settled),
+        (Call::Write(Write::Ask(&question)), Reply::Ask(Ok(0))),
+        (Call::Tell(Tell::Roles), Reply::Roles(0)),
     ];
     let nothing = Matrix::new(3, vec![in heap; 0; 8]?);
     let mut areas = [[]; 7];
@@ -276,15 +282,71 @@ fn the_network_without_nodes_takes_questions_only(rt: HostRuntime) -> Result<(),
     Ok(())
 }
 
-#[test]
-fn a_table_that_is_not_regular_has_a_witness(rt: HostRuntime) -> Result<(), Fail> {
-    let mut network = matrix(rt.alloc(), 3)?;
-    assert_eq!(rt; network.put(0, 1, 1), Ok(()));
-    assert_eq!(rt; vet(&network, &Kinds, &[0, 1, 1]), Ok(Some((1, 2, 0))));
+// Draws the network, settles it, and holds it against what is known of it.
+fn assert_known<N: Editable + Drop, M: Measure + Copy>(
+    rt: &impl Abort,
+    heap: Global,
+    known: &KnownNetwork,
+    network: N,
+    measure: M,
+) -> Result<(), Fail> {
+    let mut exchanges = Vec::new(heap);
+    for &(edit, _) in known.edits {
+        exchanges.push(Exchange::of(Call::Edit(edit), &mut []))?;
+    }
+    let settled = drive(network, measure, &mut exchanges);
+    for (exchange, &(_, reply)) in exchanges.iter().zip(known.edits.iter()) {
+        assert_eq!(rt; exchange.reply, reply);
+    }
+    assert_eq!(rt;
+        (settled.roles(), settled.splits()),
+        (known.roles, known.splits)
+    );
+    for (x, &head) in known.table.iter().enumerate() {
+        let role = settled.role_of(x).unwrap_or_default();
+        let told = settled.role(role).map(|role| role.head);
+        assert_eq!(rt; told, Ok(usize::from(head)), "node {x}");
+    }
+    let network = settled.network();
+    assert_eq!(rt; vet(network, &measure, known.table), Ok(None));
+    for irregular in known.irregular {
+        assert_eq!(rt;
+            vet(network, &measure, irregular.table),
+            Ok(Some(irregular.witness))
+        );
+    }
     Ok(())
 }
 
+// The same, by this measure.
+fn assert_known_by<M: Measure + Copy>(
+    rt: &impl Abort,
+    heap: Global,
+    known: &KnownNetwork,
+    measure: M,
+) -> Result<(), Fail> {
+    match known.start {
+        Start::Matrix(n) => assert_known(rt, heap, known, matrix(heap, n)?, measure),
+        Start::TwoMode(a, b) => {
+            let memory = vec![in heap; 0; a.saturating_mul(b)]?;
+            assert_known(rt, heap, known, TwoMode::new(a, b, memory), measure)
+        }
+        Start::List(n, s) => {
+            let memory = vec![in heap; Slot::Free; s]?;
+            assert_known(rt, heap, known, SlotList::new(n, memory), measure)
+        }
+    }
+}
+
 #[test]
-fn twelve_tables_are_known(rt: HostRuntime) {
-    assert_eq!(rt; known_networks(), 12);
+fn each_known_network_settles_into_its_table(rt: HostRuntime) -> Result<(), Fail> {
+    let heap = rt.alloc();
+    for known in &known_networks() {
+        match known.weighing {
+            Weighing::Kinds => assert_known_by(&rt, heap, known, Kinds)?,
+            Weighing::Bundles => assert_known_by(&rt, heap, known, Bundles)?,
+            Weighing::Tally => assert_known_by(&rt, heap, known, Tally)?,
+        }
+    }
+    Ok(())
 }

@@ -1,19 +1,18 @@
-use Rattle.std.proofs.Common.{◌≡◌, ◌∙◌, ℕ, ◌<◌, length, get_or, subst, sym, ap, refl, inl, inr, get_or-set_other, arith}
+use Rattle.std.proofs.Common.{◌≡◌, ◌∙◌, ℕ, ◌<◌, false, length, get_or, subst, sym, ap, refl, inl, inr, get_or-set_other, arith}
 use Rattle.std.proofs.lemmas.Bool.{cases_Bool}
 use Rattle.std.proofs.lemmas.List.{length-map, take_all}
 use Rattle.equivalence.proofs.Levels.{coarsest_level}
 use Rattle.equivalence.proofs.Refinement.{coarsest_settled}
 use Rattle.session.specs.SettledSessions.{settled_state}
 use Rattle.session.specs.States.{role}
-use Rattle.driving.specs.Book.{book_in}
-use Rattle.driving.specs.Courses.{Course, last_book, settled_after}
+use Rattle.driving.specs.Book.{Book, book_in}
+use Rattle.driving.specs.Courses.{Course, calls_of, course_after, course_before, course_of, last_book}
 use Rattle.driving.specs.declared.call.Exchange.{Exchange}
-use Rattle.driving.specs.Runs.{RunTo, Run, calls_of, course_before}
-use Rattle.driving.specs.States.{is_settled, state_in}
+use Rattle.driving.specs.Promise.{RunTo}
+use Rattle.driving.specs.States.{course_in, is_settled, state_in}
 use Rattle.driving.specs.Turns.{Turn}
-use Rattle.driving.proofs.Moments.{books}
-use Rattle.driving.proofs.Promised.{keeps_book, coarse, answers}
-use Rattle.driving.proofs.RunLaws.{edits_law, questions_law, tellings_law, stays_law, settles_law}
+use Rattle.driving.proofs.Promised.{promised}
+use Rattle.driving.proofs.RunLaws.{run_laws}
 use Rattle.driving.proofs.Running.{none, at_within, course_next, run_begun, run_next}
 use Rattle.driving.proofs.Turning.{Best, book_same}
 use Rattle.driving.proofs.drive.drive.Given.{Over}
@@ -21,7 +20,7 @@ use Rattle.driving.proofs.drive.drive.Goals as goal
 
 pub loop-exchange-init : goal.loop-exchange-init
 loop-exchange-init g c =
-    (ap (λ p. p.1) c.new.ensures.parts, refl, run_begun g.M.Measure.ops (g.N.Readable.meaning c.args.network) c.args.exchanges.now _ c.new.ensures.begun c.new.result.sound, λ j past. refl)
+    (ap (λ p. p.1) c.new.ensures.parts, ap (λ (b : Book). record { settled = false; book = b }) (book_same c.new.ensures.begun.network c.new.ensures.begun.colours), run_begun g.M.Measure.ops (g.N.Readable.meaning c.args.network) c.args.exchanges.now _ c.new.ensures.begun c.new.result.sound, λ j past. refl)
 
 pub loop-exchange-preserved : goal.loop-exchange-preserved
 loop-exchange-preserved g c =
@@ -39,15 +38,15 @@ loop-exchange-preserved g c =
     let was : x ≡ e = i.3 k (omega arith) in
     let here = at_within given none k within in
     let next = state_in c.call.result.0 in
-    let settled_is : is_settled c.loop-exchange.session ≡ (course_before m given k).settled = i.1 in
+    let settled_is : is_settled c.loop-exchange.session ≡ (course_before m given k).settled = ap (λ (t : Course). t.settled) i.1 in
     let turn : Turn o (course_before m given k).settled e.call (run.state k) next e.area.now d.reply d.area.now =
     rw (was, settled_is, sym now) at c.call.ensures.turn
     in (
       c.call.ensures.measure ∙ i.0,
-      ap (λ (t : Course). t.settled) c.call.ensures.course
-          ∙ ap (λ b. settled_after b x.call) settled_is
-          ∙ ap (λ (y : Exchange). settled_after (course_before m given k).settled y.call) was
-          ∙ sym (ap (λ (t : Course). t.settled) (course_next m given k e here)),
+      c.call.ensures.course
+          ∙ ap (λ t. course_after t x.call) i.1
+          ∙ ap (λ (y : Exchange). course_after (course_before m given k) y.call) was
+          ∙ sym (course_next m given k e here),
       run_next o m given xs k run within e d here next (record { call = ap (λ (y : Exchange). y.call) was; area = ap (λ (y : Exchange). y.area.ghost_name) was }) turn c.call.ensures.sound,
       λ j past. get_or-set_other xs k j d none (λ n. omega (arith, past, n)) ∙ i.3 j (omega (arith, past)),
     )
@@ -57,17 +56,18 @@ at_end : (g : Over) (c : goal.After-settle g) → c.loop-exchange.exchange-index
 at_end g c = omega (arith, c.loop-exchange-test.false, c.loop-exchange.auto, c.loop-exchange.invariant.2.0.one_each)
 
 -- and this is their run
-run : (g : Over) (c : goal.After-settle g) → (run : Run g.M.Measure.ops (g.N.Readable.meaning c.args.network) c.args.exchanges.now c.loop-exchange.exchanges) × (run.state (length c.args.exchanges.now) ≡ state_in c.loop-exchange.session) × (is_settled c.loop-exchange.session ≡ (course_before (g.N.Readable.meaning c.args.network) c.args.exchanges.now (length c.args.exchanges.now)).settled)
+run : (g : Over) (c : goal.After-settle g) → (run : RunTo g.M.Measure.ops (g.N.Readable.meaning c.args.network) c.args.exchanges.now c.loop-exchange.exchanges (length c.args.exchanges.now)) × (run.state (length c.args.exchanges.now) ≡ state_in c.loop-exchange.session) × (course_in c.loop-exchange.session ≡ course_before (g.N.Readable.meaning c.args.network) c.args.exchanges.now (length c.args.exchanges.now))
 run g c =
     let m = g.N.Readable.meaning c.args.network in
     let given = c.args.exchanges.now in
     let i = c.loop-exchange.invariant in
-    let P : ℕ → Type 0 = λ k. (run : RunTo g.M.Measure.ops m given c.loop-exchange.exchanges k) × (run.state k ≡ state_in c.loop-exchange.session) × (is_settled c.loop-exchange.session ≡ (course_before m given k).settled) in
+    let P : ℕ → Type 0 = λ k. (run : RunTo g.M.Measure.ops m given c.loop-exchange.exchanges k) × (run.state k ≡ state_in c.loop-exchange.session) × (course_in c.loop-exchange.session ≡ course_before m given k) in
     subst P (at_end g c) (i.2.0, i.2.1, i.1)
 
 pub returns-clause-driven : goal.returns-clause-driven
 returns-clause-driven g c =
-    let (run, now, settled) = run g c in
+    let (run, now, course) = run g c in
+    let settled = ap (λ (t : Course). t.settled) course in
     record {
       run = run;
       sound = c.settle.result.session.sound;
@@ -76,19 +76,19 @@ returns-clause-driven g c =
     }
 
 -- the book after the calls is the session's own
-last : (g : Over) (c : goal.After-settle g) → book_in (settled_state c.settle.result) ≡ last_book (g.N.Readable.meaning c.args.network) (calls_of c.args.exchanges.now)
+last : (g : Over) (c : goal.After-settle g) → book_in (settled_state c.settle.result) ≡ last_book (g.N.Readable.meaning c.args.network) c.args.exchanges.now
 last g c =
     let m = g.N.Readable.meaning c.args.network in
     let given = c.args.exchanges.now in
-    let (run, now, settled) = run g c in
+    let (run, now, course) = run g c in
     let own : book_in (settled_state c.settle.result) ≡ book_in (state_in c.loop-exchange.session) =
     elim (cases_Bool (is_settled c.loop-exchange.session)) [
       | inl e ↦ ap book_in (c.settle.ensures.settled e)
       | inr e ↦ let ended = c.settle.ensures.ended e in book_same ended.network ended.colours
     ]
     in
-    own ∙ ap book_in (sym now) ∙ books g.M.Measure.ops m given c.loop-exchange.exchanges run (length given) (omega arith)
-    ∙ ap (λ calls. last_book m calls) (take_all (length given) (calls_of given) (omega (arith, length-map given (λ (e : Exchange). e.call))))
+    own ∙ ap (λ (t : Course). t.book) course
+    ∙ ap (λ calls. (course_of m calls).book) (take_all (length given) (calls_of given) (omega (arith, length-map given (λ (e : Exchange). e.call))))
 
 best : (g : Over) (c : goal.After-settle g) → Best g.M.Measure.ops (settled_state c.settle.result)
 best g c =
@@ -96,14 +96,8 @@ best g c =
     let state = settled_state s in
     coarsest_settled g.M.Measure.ops state.network state.colours (role state) s.session.sound.between s.regular
 
-pub returns-clause-kept : goal.returns-clause-kept
-returns-clause-kept g c = keeps_book g.M.Measure.ops g.met.M.Measure.lawful (settled_state c.settle.result) c.settle.result.session.sound (best g c) _ (last g c)
-
-pub returns-clause-coarse : goal.returns-clause-coarse
-returns-clause-coarse g c = coarse g.M.Measure.ops g.met.M.Measure.lawful (settled_state c.settle.result) c.settle.result.session.sound (best g c) _ (last g c)
-
-pub returns-clause-answers : goal.returns-clause-answers
-returns-clause-answers g c = answers g.M.Measure.ops g.met.M.Measure.lawful (settled_state c.settle.result) c.settle.result.session.sound (best g c) _ (last g c)
+pub returns-clause-promise : goal.returns-clause-promise
+returns-clause-promise g c = promised g.M.Measure.ops g.met.M.Measure.lawful (settled_state c.settle.result) c.settle.result.session.sound (best g c) _ (last g c)
 
 pub returns-clause-measure : goal.returns-clause-measure
 returns-clause-measure g c = ap (λ p. p.1) c.settle.ensures.parts ∙ c.loop-exchange.invariant.0
@@ -111,17 +105,5 @@ returns-clause-measure g c = ap (λ p. p.1) c.settle.ensures.parts ∙ c.loop-ex
 pub returns-clause-levels : goal.returns-clause-levels
 returns-clause-levels g c = coarsest_level g.M.Measure.ops g.met.M.Measure.lawful
 
-pub returns-clause-edits : goal.returns-clause-edits
-returns-clause-edits g c = edits_law g.M.Measure.ops g.met.M.Measure.lawful
-
-pub returns-clause-questions : goal.returns-clause-questions
-returns-clause-questions g c = questions_law g.M.Measure.ops g.met.M.Measure.lawful
-
-pub returns-clause-tellings : goal.returns-clause-tellings
-returns-clause-tellings g c = tellings_law g.M.Measure.ops g.met.M.Measure.lawful
-
-pub returns-clause-stays : goal.returns-clause-stays
-returns-clause-stays g c = stays_law g.M.Measure.ops g.met.M.Measure.lawful
-
-pub returns-clause-settles : goal.returns-clause-settles
-returns-clause-settles g c = settles_law g.M.Measure.ops g.met.M.Measure.lawful
+pub returns-clause-laws : goal.returns-clause-laws
+returns-clause-laws g c = run_laws g.M.Measure.ops g.met.M.Measure.lawful

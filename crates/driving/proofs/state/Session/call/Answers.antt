@@ -1,21 +1,18 @@
-use Rattle.std.proofs.Common.{◌≡◌, Bool, true, false}
-use Rattle.session.specs.OpenSessions.{state_of}
-use Rattle.session.specs.SettledSessions.{settled_state}
-use Rattle.driving.specs.Book.{Book}
-use Rattle.driving.specs.Courses.{Course}
-use Rattle.driving.specs.States.{state_in}
-use Rattle.driving.proofs.Turning.{booked}
+use Rattle.std.proofs.Common.{◌≡◌, rules, refl, ap}
+use Rattle.driving.specs.declared.call.Call.{Call}
+use Rattle.driving.specs.declared.call.Move.{Move}
+use Rattle.driving.specs.declared.call.Reply.{Reply}
+use Rattle.driving.specs.declared.call.Write.{Write}
 use Rattle.driving.proofs.state.Session.call.Goals as goal
 
-same_course : {a b : Bool} {x y : Book} → a ≡ b → x ≡ y → ◌≡◌ {A = Course} (record { settled = a; book = x }) (record { settled = b; book = y })
-same_course e d = λ i. record { settled = e i; book = d i }
+pub returns-in-Open-Move-Step-clause-turn : goal.returns-in-Open-Move-Step-clause-turn
+returns-in-Open-Move-Step-clause-turn g c =
+    let told = c.step-step.ensures in
+    let is : c.args.call ≡ Call.Move Move.Step = search rules in
+    rw (is, c.in-Open-Move-Step.is-0) ((told.stable, told.stepped), refl)
 
-pub returns-in-Open-clause-course : goal.returns-in-Open-clause-course
-returns-in-Open-clause-course g c =
-    let told = c.call_open.ensures in
-    rw c.in-Open.is (same_course told.settled (booked g.M.Measure.ops (state_of c.in-Open.session) (state_in c.call_open.result.0) c.args.area.now c.call_open.result.1 c.call_open.new.area false c.args.call told.turn))
-
-pub returns-in-Settled-clause-course : goal.returns-in-Settled-clause-course
-returns-in-Settled-clause-course g c =
-    let told = c.call_settled.ensures in
-    rw c.in-Settled.is (same_course told.settled (booked g.M.Measure.ops (settled_state c.in-Settled.session) (state_in c.call_settled.result.0) c.args.area.now c.call_settled.result.1 c.call_settled.new.area true c.args.call told.turn))
+pub returns-in-Settled-Write-Ask-clause-turn : goal.returns-in-Settled-Write-Ask-clause-turn
+returns-in-Settled-Write-Ask-clause-turn g c =
+    let told = c.ask.ensures in
+    let is : c.args.call ≡ Call.Write (Write.Ask c.in-Settled-Write-Ask.question) = search rules in
+    rw (c.in-Settled-Write-Ask.is-0, is) (ap (λ v. Reply.Ask v) told.start, told.area, refl)
