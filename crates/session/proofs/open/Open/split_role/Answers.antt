@@ -11,7 +11,7 @@ use Rattle.session.proofs.open.Open.split_role.Goals as goal
 pub split-requires-clause-few : goal.split-requires-clause-few
 split-requires-clause-few g c =
     let s = c.args.self.now in
-    omega (arith, s.sound.counted, numbered s.table (g.N.Readable.meaning s.network).nodes s.sound.entries, s.table.kept.packed, s.table.kept.few)
+    omega (arith, s.sound.counted, numbered s.table (g.N.Readable.meaning s.network).nodes s.sound.entries, s.table.recorded.packed, s.table.recorded.few)
 
 two : (g : Over) (c : goal.After-split g) → (let m = g.N.Readable.meaning c.args.self.now.network in InTwo g.M.Measure.ops (state_with m c.args.self.now.table) (state_with m c.split.new.self) c.args.r c.args.c (length c.args.self.now.table.roles.items))
 two g c =

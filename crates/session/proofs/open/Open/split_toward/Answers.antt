@@ -24,4 +24,4 @@ loop-r-preserved g c =
 pub returns-clause-search : goal.returns-clause-search
 returns-clause-search g c =
     let s = c.args.self.now in
-    (λ x y hx hy e. c.loop-r.invariant.1 (role_in s.table x) (omega (arith, s.sound.entries, s.table.kept.ranged x (omega (arith, s.sound.entries)), c.count-r-end.ensures, c.loop-r-test.false)) x y hx hy refl (sym e), c.loop-r.invariant.0)
+    (λ x y hx hy e. c.loop-r.invariant.1 (role_in s.table x) (omega (arith, s.sound.entries, s.table.recorded.ranged x (omega (arith, s.sound.entries)), c.count-r-end.ensures, c.loop-r-test.false)) x y hx hy refl (sym e), c.loop-r.invariant.0)

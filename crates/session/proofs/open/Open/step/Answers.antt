@@ -18,7 +18,7 @@ regular : (g : Over) (c : goal.After-loop-toward g) → Regular g.M.Measure.ops 
 regular g c =
     let s = c.args.self.now in
     regular_each g.M.Measure.ops (state_of s).network (role (state_of s)) (length s.table.roles.items)
-    (λ x l. s.table.kept.ranged x (omega (arith, s.sound.entries)))
+    (λ x l. s.table.recorded.ranged x (omega (arith, s.sound.entries)))
     (λ k l. c.loop-toward.invariant.1 k (omega (arith, c.count-fresh.ensures, c.loop-toward-test.false)))
 
 pub returns-clause-stable : goal.returns-clause-stable
