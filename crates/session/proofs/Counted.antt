@@ -34,7 +34,3 @@ module _ (t : RoleTable) where
       (λ x l _. (t.recorded.ranged x l, refl))
       (λ x y _ _ hx hy e. sym ((head_decides (role_in t) x).0 hx) ∙ head_same (role_in t) x y e ∙ (head_decides (role_in t) y).0 hy) in
       omega (arith, heads, of_heads, count_below_all (count_in t))
-
-  module _ (n : ℕ) (fits : nodes_in t ≡ n) where
-    pub numbered : count_in t ≡ roles (role_in t) n
-    numbered = rw fits at counted

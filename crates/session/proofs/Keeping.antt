@@ -1,5 +1,5 @@
 -- What the table of an open session keeps.
-use Rattle.std.proofs.Common.{◌≡◌, ℕ, ◌+◌, ◌<◌, ◌≤◌, refl, length, set, List, replicate, inl, inr, ap, arith}
+use Rattle.std.proofs.Common.{◌≡◌, ℕ, ◌+◌, ◌<◌, ◌≤◌, refl, length, set, List, replicate, inl, inr, ap, ◌∙◌, arith}
 use Rattle.std.proofs.lemmas.Bool.{cases_lt}
 use Rattle.std.proofs.lemmas.Bool.Decides.{nat_tests}
 use Rattle.std.proofs.lemmas.Grind.{common_steps}
@@ -18,7 +18,12 @@ use Rattle.session.specs.States.{IsSound, State, class_count, classes, record_of
 use Rattle.session.specs.Steps.{InTwo}
 use Rattle.session.specs.Tables.{Starting, class_in, count_in, head_in, nodes_in, record_in, role_in}
 use Rattle.session.specs.declared.table.Table.{Table as RoleTable}
-use Rattle.session.proofs.Counted.{numbered}
+use Rattle.session.proofs.Counted.{counted}
+
+module _ (t : RoleTable) (n : ℕ) (fits : nodes_in t ≡ n) where
+  -- as many records as roles
+  pub numbered : count_in t ≡ roles (role_in t) n
+  numbered = counted t ∙ ap (roles (role_in t)) fits
 
 module _ (t : RoleTable) {V : Type 0} (o : Operations V) (m : Meaning) where
   abbrev state : State
@@ -27,7 +32,7 @@ module _ (t : RoleTable) {V : Type 0} (o : Operations V) (m : Meaning) where
   -- what an open session keeps of its table
   module _ (fits : nodes_in t ≡ m.nodes) where
     pub sound : Covers o m (classes state) (role_in t) → t.splits + class_count state ≡ role_count state → IsSound o state
-    sound covers counted =
+    sound covers tallied =
         record {
           few = omega (arith, fits, t.recorded.few);
           entries = fits;
@@ -36,7 +41,7 @@ module _ (t : RoleTable) {V : Type 0} (o : Operations V) (m : Meaning) where
               let told = t.recorded.described r (omega (arith, numbered t m.nodes fits)) in
               record { node = omega (arith, fits, told.node); mate = told.mate; lowest = told.lowest; size = refl };
           covers = covers;
-          counted = counted;
+          counted = tallied;
         }
 
     -- the record that is kept of a role

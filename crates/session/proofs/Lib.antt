@@ -6,3 +6,4 @@ pub mod Asked
 pub mod Ranges
 pub mod Keeping
 pub mod Splits
+pub mod Classes

@@ -4,7 +4,7 @@ use Rattle.std.proofs.lemmas.Bool.{cases_eq, eq-eqb, ne_eqb}
 use Rattle.std.proofs.lemmas.List.{places, get_or_push, length_push}
 use Rattle.network.specs.Meaning.{count_below}
 use Rattle.network.proofs.Counting.{count_below_le, count_below_same, sum_below_none}
-use Rattle.equivalence.specs.Splitting.{members}
+use Rattle.equivalence.specs.Regular.{members}
 use Rattle.equivalence.specs.Vetted.{table_of}
 use Rattle.session.specs.Roles.{Described, Recorded, head_at, record_at}
 use Rattle.session.specs.declared.role.Role.{Role}

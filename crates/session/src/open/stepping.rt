@@ -2,11 +2,12 @@
 // smaller-half rule: a measure has no subtraction.
 // A step reads each ordered pair of nodes at most four times, and the bytes of the table a few
 // times for each pair of roles.
-ghost use Rattle.std.specs.Prelude.{◌≡◌, ◌↔◌, ◌<◌, MatchOption, filter};
-ghost use Rattle.std.specs.List.{range_with_len};
+ghost use Rattle.std.specs.Prelude.{◌≡◌, ◌↔◌, ℕ, Bool, ◌<◌, None, MatchOption, filter};
+ghost use Rattle.std.specs.List.{All, range_with_len};
 ghost use Rattle.equivalence.specs.Heads.{head_of};
 ghost use Rattle.equivalence.specs.Regular.{Balanced, Even, Regular, members};
-ghost use Rattle.equivalence.specs.Splitting.{SplitLaw};
+ghost use Rattle.equivalence.specs.Splitting.{SplitLaw, leaves};
+ghost use Rattle.equivalence.specs.Totals.{flag};
 ghost use Rattle.session.specs.OpenSessions.{state_of, parts_of};
 ghost use Rattle.session.specs.States.{role};
 ghost use Rattle.session.specs.Steps.{InTwo, Stepped};
@@ -20,6 +21,19 @@ use measure::interface::Measure;
 use network::interface::Editable;
 
 impl<N: Editable, M: Measure> Open<N, M> {
+    // Which nodes leave the role of `part`, by totals toward the listed nodes.
+    fn leaving(&self, part: usize, nodes: &[u8]) -> [bool; 128]
+        requires node { part < (state_of self.now).network.nodes }
+        requires nodes { let n = (state_of self.now).network.nodes in All (λ y. y < n) nodes.now }
+        ensures { let s = state_of self.now in
+            (among : ℕ → Bool)
+            → nodes.now ≡ filter among (range_with_len 0 s.network.nodes)
+            → (x : ℕ) → x < s.network.nodes
+            → flag result x ≡ leaves M.Measure.ops s.network (role s) part among x }
+    {
+        leaving(&self.network, &self.measure, self.table.roles_of(), part, nodes)
+    }
+
     // Splits the role of head `part` by totals toward that of head `toward`, whose nodes are
     // listed, where they differ in it. Gives the head of the new role.
     fn split_role(&mut self, part: usize, toward: usize, nodes: &[u8]) -> Option<usize>
@@ -33,12 +47,15 @@ impl<N: Editable, M: Measure> Open<N, M> {
         ensures search { let s = state_of self.old in
             let among = members (role s) (role s toward) in
             MatchOption result
-            (Even M.Measure.ops s.network (role s) (role s part) among × (self.new ≡ self.old))
+            (Even M.Measure.ops s.network (role s) (role s part) among)
             (λ fresh. InTwo M.Measure.ops s (state_of self.new) part toward fresh) }
+        ensures unaltered { result ≡ None → self.new ≡ self.old }
         ensures parts { parts_of self.new ≡ parts_of self.old }
     {
-        let leaving = leaving(&self.network, &self.measure, self.table.roles_of(), part, nodes);
-        let fresh = self.table.lowest(&leaving)?;
+        let leaving = self.leaving(part, nodes);
+        let Some(fresh) = self.table.lowest(&leaving) else {
+            return None;
+        };
         self.table.split(fresh, &leaving);
         Some(fresh)
     }
@@ -49,8 +66,9 @@ impl<N: Editable, M: Measure> Open<N, M> {
         requires { c < count_in self.old.table }
         ensures search { let s = state_of self.old in
             MatchOption result
-            (Balanced M.Measure.ops s.network (role s) (members (role s) c) × (self.new ≡ self.old))
+            (Balanced M.Measure.ops s.network (role s) (members (role s) c))
             (λ two. InTwo M.Measure.ops s (state_of self.new) two.0 (s.head c) two.1) }
+        ensures unaltered { result ≡ None → self.new ≡ self.old }
         ensures parts { parts_of self.new ≡ parts_of self.old }
     {
         let toward = self.table.role(c).head;

@@ -4,6 +4,7 @@ ghost use Rattle.equivalence.specs.Heads.{head_of};
 ghost use Rattle.equivalence.specs.Vetted.{table_of};
 ghost use Rattle.session.specs.Roles.{Headed};
 ghost use Rattle.session.specs.Tables.{nodes_in, count_in, head_in, role_in};
+ghost use Rattle.session.specs.declared.role.Role.{Role};
 
 use super::super::role::Role;
 use super::Table;
@@ -30,7 +31,7 @@ impl Table {
     fn begin(&mut self)
         requires room { nodes_in self.old < 128 }
         ensures table { self.new.role_of.items ≡ self.old.role_of.items ++ count_in self.old ∷ [] }
-        ensures roles { let role = record { head = nodes_in self.old; size = 1 } in
+        ensures roles { let role : Role = record { head = nodes_in self.old; size = 1 } in
             self.new.roles.items ≡ self.old.roles.items ++ role ∷ [] }
         ensures colours { self.new.colours ≡ self.old.colours }
         ensures splits { self.new.splits ≡ self.old.splits }

@@ -1,7 +1,7 @@
 // Nodes leave their roles.
 ghost use Rattle.std.specs.Prelude.{◌≡◌, ℕ, ◌+◌, ◌<◌, ◌≤◌, cond, false, true, MatchOption};
 ghost use Rattle.equivalence.specs.Heads.{head_of};
-ghost use Rattle.session.specs.Leaving.{flag};
+ghost use Rattle.equivalence.specs.Totals.{flag};
 ghost use Rattle.session.specs.Tables.{nodes_in, count_in, head_in, role_in};
 
 use super::Table;

@@ -1,6 +1,5 @@
 // The table at the starting classes.
 ghost use Rattle.std.specs.Prelude.{◌≡◌, ℕ, ◌<◌, ◌≤◌, slice_set};
-ghost use Rattle.network.specs.Meaning.{Meaning};
 ghost use Rattle.equivalence.specs.Starting.{starting_classes};
 ghost use Rattle.equivalence.specs.Starting as starting;
 ghost use Rattle.equivalence.specs.Vetted.{table_of};
@@ -10,23 +9,25 @@ use super::Table;
 use arrayvec::ArrayVec;
 use network::interface::Readable;
 
-// Whether x and y start together, in every network.
-fn starts_with(colours: &[u8; 128], x: usize, y: usize) -> bool
+// Whether x and y start together.
+fn starts_with<N: Readable>(_network: &N, colours: &[u8; 128], x: usize, y: usize) -> bool
     requires x { x < 128 }
     requires y { y < 128 }
-    ensures { (m : Meaning) → result ≡ starting.starts_with m (table_of colours.now) x y }
+    ensures { let m = N.Readable.meaning _network.now in
+        result ≡ starting.starts_with m (table_of colours.now) x y }
 {
     colours[x] == colours[y]
 }
 
 // The lowest node that starts with x.
-fn starting_head(colours: &[u8; 128], x: usize) -> usize
+fn starting_head<N: Readable>(network: &N, colours: &[u8; 128], x: usize) -> usize
     requires { x < 128 }
-    ensures class { (m : Meaning) → result ≡ starting_classes m (table_of colours.now) x }
+    ensures class { let m = N.Readable.meaning network.now in
+        result ≡ starting_classes m (table_of colours.now) x }
     ensures below { result ≤ x }
 {
     (0..x)
-        .find(|&y| starts_with(colours, x, y))
+        .find(|&y| starts_with(network, colours, x, y))
         .unwrap_or(x)
 }
 
@@ -38,7 +39,7 @@ impl Table {
     {
         let mut heads = ArrayVec::<u8, 128>::new();
         for x in 0..network.nodes() {
-            heads.push(starting_head(&colours, x) as u8);
+            heads.push(starting_head(network, &colours, x) as u8);
         }
         Table::of_heads(&heads, colours, 0)
     }

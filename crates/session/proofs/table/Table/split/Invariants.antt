@@ -1,6 +1,6 @@
 use Rattle.std.proofs.Common.{◌≡◌, ◌<◌, ℕ, cond, length}
 use Rattle.equivalence.specs.Vetted.{table_of}
-use Rattle.session.specs.Leaving.{flag}
+use Rattle.equivalence.specs.Totals.{flag}
 use Rattle.session.specs.Roles.{head_at}
 use Rattle.session.proofs.table.Table.split.Given as goal
 
