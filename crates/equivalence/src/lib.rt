@@ -6,6 +6,8 @@
 pub mod faults;
 // What a node has with a set of nodes.
 pub mod totals;
+// Which nodes leave a role when it is split.
+pub mod leaving;
 // Whether a table is regular.
 pub mod vetting;
 // What regular means in the classical notions.
