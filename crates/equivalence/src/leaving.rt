@@ -10,10 +10,8 @@ use measure::interface::Measure;
 use network::interface::Readable;
 
 /// Flags the nodes of part's role whose total toward the listed nodes is not part's. One weigh
-/// for each node of the role and each listed node.
-///
-/// `table` has a byte for each node, and `part` and those that are listed are nodes: the engine's
-/// own search for a split calls it so.
+/// for each node of the role and each listed node. The engine's own, so that the table has a byte
+/// for each node, and part and those that are listed are nodes.
 pub fn leaving<N: Readable, M: Measure>(
     network: &N,
     measure: &M,

@@ -63,7 +63,7 @@ impl Measure for Bundles {
     }
 }
 
-// The number of a bundle: the kinds that go out are its bits 0 to 2, those that come in its bits 3 to 5.
+// The number of a bundle: bits 0 to 2 are the kinds that go out, bits 3 to 5 those that come in.
 fn bundle(out: u8, into: u8) -> u8
     ensures { result ≡ bundle out into }
 {

@@ -55,7 +55,8 @@ impl Measure for Tally {
         a == b
     }
 
-    /// Tests 0 to 127 ask for more than t ties that go out, 128 to 255 for more than t - 128 that come in.
+    /// Tests 0 to 127 ask for more than t ties that go out, tests 128 to 255 for more than t - 128
+    /// that come in.
     fn holds(&self, v: Counts, t: u8) -> bool {
         if t < 128 { v.out > t } else { v.into > t - 128 }
     }
