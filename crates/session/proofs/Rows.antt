@@ -1,13 +1,15 @@
 -- Rows of truth, written as bytes and read again.
-use Rattle.std.proofs.Common.{◌≡◌, ℕ, zero, suc, ◌+◌, ◌*◌, ◌<◌, ◌≤◌, Bool, true, false, cond, eqb, List, [], ◌∷◌, ◌++◌, length, get_or, set, replicate, inl, inr, take, drop, flat_map, Some, None, sym, refl, ap, ◌∙◌, add-one, suc-mul, arith}
+use Rattle.std.proofs.Common.{◌≡◌, ℕ, zero, suc, ◌+◌, ◌*◌, ◌<◌, ◌≤◌, Bool, true, false, cond, eqb, List, [], ◌∷◌, ◌++◌, length, get_or, set, replicate, inl, inr, take, drop, filter, flat_map, Some, None, sym, refl, ap, ◌∙◌, add-one, suc-mul, arith}
 use mir.Val.{bool_byte}
+use Rattle.std.specs.List.{All, range_with_len}
 use Rattle.std.proofs.Math.Nat.{mul-le-mul_right}
 use Rattle.std.proofs.lemmas.Bool.{cases_eq}
 use Rattle.std.proofs.lemmas.Bool.Decides.{nat_tests}
 use Rattle.std.proofs.lemmas.Grind.{get_or-set_at}
 use Rattle.std.proofs.lemmas.List.{length-append, length-replicate, get_or-replicate, get_or-set_other, get_or_append_left, get_or-append-add, take_at, drop_at, drop-drop, append-nil, append_assoc}
 use Rattle.std.proofs.lemmas.List.Concat.{flat_map-append}
-use Rattle.std.proofs.lemmas.List.FromFn.{fill_by_all, length-map-range_with_len, get_or-map-range_with_len}
+use Rattle.std.proofs.lemmas.List.Elements.{All-filter}
+use Rattle.std.proofs.lemmas.List.FromFn.{length-range_with_len, get_or-range_with_len, fill_by_all, length-map-range_with_len, get_or-map-range_with_len}
 use Rattle.network.specs.Meaning.{Meaning}
 use Rattle.measure.specs.Measures.{Operations}
 use Rattle.equivalence.specs.Regular.{Table}
@@ -19,6 +21,11 @@ use Rattle.question.specs.declared.line.Line.{Line}
 use Rattle.question.specs.declared.line.Claim.{Claim}
 use Rattle.question.specs.declared.line.Claim.TheVariants.{Colour, Not, And, Tied}
 use Rattle.session.specs.Marks.{marked, Written}
+
+-- the nodes of a set are nodes
+pub listed_below : (among : ℕ → Bool) (n : ℕ) (nodes : List ℕ) → nodes ≡ filter among (range_with_len 0 n) → All (λ y. y < n) nodes
+listed_below among n nodes is =
+    rw is (All-filter among (λ y. y < n) (range_with_len 0 n) (λ k d l. omega (arith, l, length-range_with_len 0 n, get_or-range_with_len 0 n k d (omega (arith, l, length-range_with_len 0 n)))))
 
 pub row_filled : (width : ℕ) (true_at : ℕ → Bool) (bytes : List ℕ) → length bytes ≡ width → ((p : ℕ) → p < width → get_or bytes p 0 ≡ cond (true_at p) 1 0) → bytes ≡ row_bytes width true_at
 row_filled width true_at bytes long at = fill_by_all _ bytes width 0 long at

@@ -1,7 +1,7 @@
 // What a question is true of, row by row.
 ghost use Rattle.std.specs.Prelude.{◌≡◌, ℕ, ◌+◌, ◌*◌, ◌<◌, ◌≤◌, length, ◌++◌, drop, filter};
 ghost use Rattle.std.specs.Prelude.{flat_map, Ok, Some};
-ghost use Rattle.std.specs.List.{range_with_len};
+ghost use Rattle.std.specs.List.{All, range_with_len};
 ghost use Rattle.question.specs.Checks.{answer_start, lines_check};
 ghost use Rattle.question.specs.Lines.{claim};
 ghost use Rattle.question.specs.Truth.{line_row, rows};
@@ -30,11 +30,16 @@ fn is_true(rows: &[u8], width: usize, k: usize, p: usize) -> bool
 
 impl<N: Editable, M: Measure> Open<N, M> {
     // The nodes that line k is true of, in order.
-    #[tactic(auto, using(crate::proofs::Ranges::filter_in, crate::proofs::Ranges::filter_out))]
+    #[tactic(auto, using(
+        crate::proofs::Ranges::filter_in,
+        crate::proofs::Ranges::filter_out,
+        crate::proofs::Rows::listed_below
+    ))]
     fn true_nodes<C: Columns>(&self, columns: &C, rows: &[u8], k: usize) -> ArrayVec<u8, 128>
         requires fits { C.nodes columns.now ≡ (state_of self.now).network.nodes }
         requires written { k * C.width columns.now + C.width columns.now ≤ length rows.now }
-        ensures { let truth = marked (C.width columns.now) rows.now in
+        ensures below { All (λ y. y < (state_of self.now).network.nodes) result.items }
+        ensures set { let truth = marked (C.width columns.now) rows.now in
             result.items ≡ filter (λ y. truth k ((C.columns columns.now).column y))
             (range_with_len 0 (state_of self.now).network.nodes) }
     {
