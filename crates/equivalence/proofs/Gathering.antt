@@ -1,4 +1,4 @@
--- What a total is made of. Assumes nothing.
+-- What a total is made of.
 use Rattle.std.proofs.Common.{◌≡◌, ℕ, zero, suc, ◌+◌, ◌<◌, Bool, true, false, cond, List, ◌∷◌, map, filter, sym, refl, ap, ◌∙◌, ap₂, arith}
 use Rattle.std.specs.List.{fold, range_with_len}
 use Rattle.network.specs.Meaning.{Meaning}

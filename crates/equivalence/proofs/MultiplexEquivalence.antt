@@ -1,4 +1,4 @@
--- Regular under bundles is multiplex regular equivalence, over kinds 0 to 2 and their inverses. Assumes nothing.
+-- Regular under bundles is multiplex regular equivalence, over kinds 0 to 2 and their inverses.
 use Rattle.std.proofs.Common.{◌≡◌, ℕ, true, ◌&&◌, eqb, ltb, sym, refl, ◌∙◌, arith}
 use Rattle.std.proofs.lemmas.Bool.{and_parts, and_from, lt-ltb, ltb-true, eq-eqb, eqb-true}
 use Rattle.std.proofs.lemmas.Bool.Decides.{same_from_decides}
@@ -8,7 +8,7 @@ use Rattle.measure.specs.BitsLemmas.{same_bits}
 use Rattle.measure.proofs.BundleBits.{bit-singleton, bundle_out, bundle_in, bundle_same, bundle_some, bundle_pos}
 use Rattle.measure.specs.BundleLaws.{members_same}
 use Rattle.equivalence.specs.Totals.{total}
-use Rattle.equivalence.specs.Regular.{Table, Regular, mates}
+use Rattle.equivalence.specs.Regular.{Table, Regular, members}
 use Rattle.equivalence.specs.Multiplex.{SameBundle, MultiplexRegular, RegularUnderBundles}
 use Rattle.equivalence.proofs.SetTotals.{SetPart}
 use Rattle.equivalence.proofs.Carrying.{Carried, carried_from_regular, same_member}
@@ -55,8 +55,8 @@ module _ (m : Meaning) where
 
     regular_from_multiplex : MultiplexRegular m role → Regular bundles m role
     regular_from_multiplex multiplex z hz x y hx hy e =
-        let a = total bundles m x (mates role z) in
-        let b = total bundles m y (mates role z) in
+        let a = total bundles m x (members role (role z)) in
+        let b = total bundles m y (members role (role z)) in
         members_same a b (same_bits 64 a.members b.members a.wide b.wide (λ t _. same_member bundles _ _ t (member_set t) m role (carried_from_multiplex multiplex t) x y z hx hy e))
 
 pub regular_under_bundles : RegularUnderBundles

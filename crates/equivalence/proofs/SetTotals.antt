@@ -1,4 +1,4 @@
--- The totals of a measure whose values are sets, member by member: a member is in a total exactly where some node of the set brings it. Assumes nothing.
+-- The totals of a measure whose values are sets, member by member: a member is in a total exactly where some node of the set brings it.
 use Rattle.std.proofs.Common.{◌≡◌, ℕ, zero, suc, ◌<◌, Bool, true, false, cond, ◌&&◌, ◌||◌, Decides, sym, refl, ap, ◌∙◌}
 use mathlib.Core.Path.{fun_ext}
 use mathlib.Core.Bool.{or_comm}

@@ -1,4 +1,4 @@
--- What a node has with a set of nodes. Assumes nothing.
+-- What a node has with a set of nodes.
 --
 --   gather      f 0, f 1, .. f (n - 1), joined
 --   share       what one node brings to a total
