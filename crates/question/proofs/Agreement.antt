@@ -5,12 +5,16 @@
 use Rattle.std.proofs.Common.{◌≡◌, ℕ, ◌+◌, ◌<◌, Bool, false, not, ◌&&◌, eqb, List, [], ◌∷◌, ◌++◌, length, Option, Some, None, sym, refl, ap, ◌∙◌, ap₂, inl, inr, arith}
 use Rattle.std.specs.List.{fold}
 use Rattle.std.proofs.lemmas.Bool.{cases_order}
+use Rattle.std.proofs.lemmas.Bool.Decides.{nat_tests}
 use Rattle.std.proofs.lemmas.List.{get_or_append_left, get_or_push, get_or_past, length_push}
 use Rattle.network.specs.Meaning.{Meaning}
 use Rattle.measure.specs.Measures.{Operations, Laws}
 use Rattle.equivalence.specs.Totals.{total}
 use Rattle.equivalence.specs.Regular.{Table}
+use Rattle.equivalence.specs.Coarsest.{Refines}
+use Rattle.equivalence.specs.Starting.{starting_classes}
 use Rattle.equivalence.proofs.Gathering.{total_same}
+use Rattle.equivalence.proofs.Starting.{starting_tells}
 use Rattle.equivalence.proofs.Unions.{balanced_union}
 use Rattle.question.specs.Lines.{claim}
 use Rattle.question.specs.Truth.{Columns, row, claimed, line_row, rows, each_node, each_role, RolesAnswer}
@@ -79,3 +83,7 @@ roles_answer o laws m colours role head quotient lines k x l =
       totals = λ among union. balanced_union o laws m role quotient.regular among union (head (role y)) y node h mate;
     })
     lines k x l
+
+-- nodes that start together have one colour
+pub within_colours : (n : ℕ) (m : Meaning) (colours role : Table) → Refines n role (starting_classes m colours) → Refines n role colours
+within_colours n m colours role within x y lx ly mates = grind (arith, nat_tests, (starting_tells m colours x y).0 (within x y lx ly mates))

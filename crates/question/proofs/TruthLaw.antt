@@ -4,11 +4,10 @@ use Rattle.std.proofs.lemmas.List.{get_or_push, length-take-le}
 use Rattle.network.specs.Meaning.{Meaning}
 use Rattle.measure.specs.Measures.{Operations}
 use Rattle.equivalence.specs.Regular.{Table}
-use Rattle.question.specs.Lines.{claim, earlier, line_at}
+use Rattle.question.specs.Lines.{line_at}
 use Rattle.question.specs.Checks.{EachPasses}
 use Rattle.question.specs.Truth.{Columns, row, claimed, line_row, rows, AsClaimed, TruthLaw}
 use Rattle.question.specs.declared.line.Line.{Line}
-use Rattle.question.specs.declared.line.Claim.{Claim}
 use Rattle.question.proofs.Passing.{names_earlier}
 use Rattle.question.proofs.Rowing.{length_rows, rows_more, row_known, claimed_same}
 

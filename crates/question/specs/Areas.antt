@@ -10,7 +10,7 @@ use Rattle.std.specs.List.{range_with_len}
 use Rattle.network.specs.Meaning.{Meaning}
 use Rattle.measure.specs.Measures.{Operations}
 use Rattle.equivalence.specs.Regular.{Table}
-use Rattle.equivalence.specs.Coarsest.{roles}
+use Rattle.equivalence.specs.Heads.{roles}
 use Rattle.question.specs.Checks.{answer_start}
 use Rattle.question.specs.Truth.{row, rows, answer, each_node, each_role}
 use Rattle.question.specs.declared.line.Line.{Line}

@@ -12,7 +12,7 @@ use Rattle.question.specs.declared.line.Line.{Line}
 use Rattle.question.specs.declared.faults.Fault.{Fault}
 use Rattle.question.proofs.Passing.{accepted}
 use Rattle.question.proofs.Rowing as rowing
-use Rattle.question.proofs.Agreement.{roles_answer}
+use Rattle.question.proofs.Agreement.{roles_answer, within_colours}
 use Rattle.session.specs.Questions.{ask_answer, look_answer, after_ask, after_look, AnswersNodes, AnswersRoles}
 use Rattle.session.specs.States.{State, IsSound, role, role_count}
 use Rattle.session.proofs.Rows.{read_row, length_rows}
@@ -60,7 +60,7 @@ module _ {V : Type 0} (o : Operations V) (s : State) (lines : List Line) (area :
   quotient sound regular =
       record {
         regular = regular;
-        within = sound.between.within;
+        within = within_colours s.network.nodes s.network s.colours (role s) sound.covers.within;
         heads = λ x l. let head = sound.described (role s x) (sound.ranged x l) in (head.node, head.mate);
       }
 
