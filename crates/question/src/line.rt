@@ -68,7 +68,7 @@ impl Line {
         }
     }
 
-    /// True of the nodes whose total toward those of line k holds test t, by the measure of the session.
+    /// True of the nodes whose total toward those of line k holds test t, by the session's measure.
     pub fn tied(k: usize, t: u8) -> Line
         ensures line { result ≡ record { code = 3; k = k; l = 0; byte = t } }
         ensures claim { claim result ≡ Some (Claim.Tied k t) }
