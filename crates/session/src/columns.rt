@@ -1,4 +1,4 @@
-// Where a question is answered: at each node, or at each role by its head.
+// What a row has columns for: each node, or each role by its head.
 ghost use Rattle.std.specs.Prelude.{◌≡◌, ℕ, ◌<◌, ◌≤◌, length};
 ghost use Rattle.arrayvec.specs.ArrayVec.{array_vec_len};
 ghost use Rattle.question.specs.Truth.{each_node, each_role};
@@ -7,35 +7,35 @@ ghost use Rattle.session.specs.Tables.{head_in, role_in};
 
 use super::table::Table;
 
-pub(crate) trait Places {
-    // How many nodes have a place here.
+pub(crate) trait Columns {
+    // How many nodes have a column here.
     ghost nodes: { Self → ℕ };
 
-    // How many places there are.
+    // How many columns there are.
     ghost width: { Self → ℕ };
 
-    ghost places: { Self → truth.Places };
+    ghost columns: { Self → truth.Columns };
 
     fn width(&self) -> usize
         ensures value { result ≡ width self.now }
         ensures few { result ≤ 128 };
 
-    // The node that stands at place p.
+    // The node that stands for column p.
     fn node(&self, p: usize) -> usize
         requires { p < width self.now }
-        ensures value { result ≡ (places self.now).node p }
-        ensures known { result < 128 };
+        ensures value { result ≡ (columns self.now).node p }
+        ensures known { result < nodes self.now };
 
-    // The place of node y.
-    fn place(&self, y: usize) -> usize
+    // The column of node y.
+    fn column(&self, y: usize) -> usize
         requires { y < nodes self.now }
-        ensures value { result ≡ (places self.now).place y }
+        ensures value { result ≡ (columns self.now).column y }
         ensures known { result < width self.now };
 
-    ghost known: { (s : Self) (y : ℕ) → y < nodes s → (places s).place y < width s };
+    ghost known: { (s : Self) (y : ℕ) → y < nodes s → (columns s).column y < width s };
 }
 
-// Each of so many nodes is a place of its own.
+// A column for each of so many nodes.
 #[derive(Clone, Copy)]
 pub(crate) struct EachNode {
     nodes: usize,
@@ -51,12 +51,12 @@ impl EachNode {
     }
 }
 
-impl Places for EachNode {
+impl Columns for EachNode {
     ghost nodes = { λ e. e.nodes };
 
     ghost width = { λ e. e.nodes };
 
-    ghost places = { λ _. each_node };
+    ghost columns = { λ _. each_node };
 
     ghost known = { λ e y node. node };
 
@@ -68,17 +68,17 @@ impl Places for EachNode {
         p
     }
 
-    fn place(&self, y: usize) -> usize {
+    fn column(&self, y: usize) -> usize {
         y
     }
 }
 
-impl Places for Table {
+impl Columns for Table {
     ghost nodes = { λ t. length t.role_of.items };
 
     ghost width = { λ t. array_vec_len t.roles };
 
-    ghost places = { λ t. each_role (role_in t) (head_in t) };
+    ghost columns = { λ t. each_role (role_in t) (head_in t) };
 
     ghost known = { λ t. t.recorded.ranged };
 
@@ -90,7 +90,7 @@ impl Places for Table {
         self.role(p).head
     }
 
-    fn place(&self, y: usize) -> usize {
+    fn column(&self, y: usize) -> usize {
         self.role_of(y)
     }
 }
