@@ -1,4 +1,4 @@
--- The totals of tally are true counts: with at most 128 nodes the cap never binds. Assumes nothing.
+-- The totals of tally are true counts: with at most 128 nodes the cap never binds.
 use Rattle.std.proofs.Common.{◌≡◌, ℕ, zero, suc, ◌≤◌, Bool, true, false, cond, ◌&&◌, ltb, ◌∙◌, arith}
 use Rattle.network.specs.Meaning.{Meaning, count_below}
 use Rattle.network.proofs.Counting.{count_below_le}

@@ -1,9 +1,9 @@
--- A table is regular under tally where it is an equitable partition. Assumes nothing.
+-- A table is regular under tally where it is an equitable partition.
 use Rattle.std.proofs.Common.{ℕ, ◌≤◌, sym, refl, ap, ◌∙◌}
 use Rattle.network.specs.Meaning.{Meaning}
 use Rattle.measure.specs.Tally.{tally}
 use Rattle.measure.specs.TallyLaws.{counts_same}
-use Rattle.equivalence.specs.Regular.{Table, Regular, mates}
+use Rattle.equivalence.specs.Regular.{Table, Regular, members}
 use Rattle.equivalence.specs.Equitable.{Equitable, Counted, TrueCounts, RegularUnderTally}
 use Rattle.equivalence.proofs.CountTotals.{Count, total_count}
 
@@ -18,8 +18,8 @@ true_counts m x among few =
     record { outgoing = total_count _ _ out_count m x among few; incoming = total_count _ _ in_count m x among few }
 
 module _ (m : Meaning) (role : Table) (few : m.nodes ≤ 128) where
-  counted : (x z : ℕ) → Counted m x (mates role z)
-  counted x z = true_counts m x (mates role z) few
+  counted : (x z : ℕ) → Counted m x (members role (role z))
+  counted x z = true_counts m x (members role (role z)) few
 
   equitable_from_regular : Regular tally m role → Equitable m role
   equitable_from_regular regular =

@@ -1,11 +1,12 @@
 pub mod Gathering
-pub mod Firsts
 pub mod Lowest
+pub mod Heads
+pub mod Starting
 pub mod Unions
 pub mod Refinement
+pub mod Splitting
 pub mod Stable
 pub mod Levels
-pub mod Parting
 pub mod Balance
 pub mod Verdicts
 pub mod SetTotals

@@ -1,10 +1,10 @@
--- A regular table has equal totals toward every union of its roles. Assumes nothing.
+-- A regular table has equal totals toward every union of its roles.
 use Rattle.std.proofs.Common.{◌≡◌, ℕ, zero, suc, ◌<◌, ◌≤◌, Bool, true, false, cond, not, ◌&&◌, eqb, sym, refl, ap, ◌∙◌, ap₂, arith}
 use Rattle.std.proofs.lemmas.Bool.Decides.{nat_tests}
 use Rattle.network.specs.Meaning.{Meaning}
 use Rattle.measure.specs.Measures.{Operations, Laws}
 use Rattle.equivalence.specs.Totals.{gather, share, total}
-use Rattle.equivalence.specs.Regular.{Table, Balanced, Regular, mates}
+use Rattle.equivalence.specs.Regular.{Table, Balanced, Regular, members}
 use Rattle.equivalence.proofs.Gathering.{gather_same, total_same}
 
 abbrev IsUnion : ℕ → Table → (ℕ → Bool) → Type 0
@@ -37,7 +37,7 @@ module _ {V : Type 0} (o : Operations V) (laws : Laws o) where
     balanced_same a b same balance x y hx hy e = total_same o m x a b same ∙ balance x y hx hy e ∙ sym (total_same o m y a b same)
 
     -- one role, or no nodes
-    balanced_one : (b : Bool) (k : ℕ) → k < m.nodes → Balanced o m role (λ y. b && mates role k y)
+    balanced_one : (b : Bool) (k : ℕ) → k < m.nodes → Balanced o m role (λ y. b && members role (role k) y)
     balanced_one true k node = regular k node
     balanced_one false k node = λ x y hx hy e. refl
 
@@ -46,12 +46,12 @@ module _ {V : Type 0} (o : Operations V) (laws : Laws o) where
     balanced_below zero fits among union none = balanced_same among (λ _. false) (λ y l. none y (omega arith) l) (λ x y hx hy e. refl)
     balanced_below (suc k) fits among union none =
         let node : k < m.nodes = omega arith in
-        let rest : ℕ → Bool = λ y. among y && not (mates role k y) in
-        let one : ℕ → Bool = λ y. among y && mates role k y in
+        let rest : ℕ → Bool = λ y. among y && not (members role (role k) y) in
+        let one : ℕ → Bool = λ y. among y && members role (role k) y in
         let still : IsUnion m.nodes role rest = λ a b la lb e. ap₂ (λ s t. s && not t) (union a b la lb e) (ap (λ r. eqb r (role k)) e) in
         let below = balanced_below k (omega arith) rest still (λ y le l. grind (arith, nat_tests, none y)) in
-        let here = balanced_same one (λ y. among k && mates role k y) (λ y l. grind (arith, nat_tests, union y k l node)) (balanced_one (among k) k node) in
-        λ x y hx hy e. total_parted m x among (mates role k) ∙ ap₂ o.join (below x y hx hy e) (here x y hx hy e) ∙ sym (total_parted m y among (mates role k))
+        let here = balanced_same one (λ y. among k && members role (role k) y) (λ y l. grind (arith, nat_tests, union y k l node)) (balanced_one (among k) k node) in
+        λ x y hx hy e. total_parted m x among (members role (role k)) ∙ ap₂ o.join (below x y hx hy e) (here x y hx hy e) ∙ sym (total_parted m y among (members role (role k)))
 
 -- a set that has all or none of the nodes of each role
 pub balanced_union :

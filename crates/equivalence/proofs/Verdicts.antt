@@ -1,4 +1,4 @@
--- The vet's yes, in other words for regular. Assumes nothing.
+-- The vet's yes, in other words for regular.
 use Rattle.std.proofs.Common.{ℕ, ◌↔◌, List, Option, Result}
 use Rattle.network.specs.Meaning.{Meaning}
 use Rattle.equivalence.specs.Regular.{Table}

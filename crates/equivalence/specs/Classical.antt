@@ -1,4 +1,4 @@
--- Regular equivalence, by its classical definition. Assumes nothing.
+-- Regular equivalence, by its classical definition.
 --
 --   RegularEquivalence    of a relation on n nodes: nodes of one role are related to nodes of the same roles
 --   tied_by               the relation 'i has a tie of kind k to j'

@@ -1,4 +1,4 @@
--- Equitable partitions. Assumes nothing.
+-- Equitable partitions.
 --
 --   out_neighbours       how many nodes of a set x has a tie to
 --   in_neighbours        how many nodes of a set have a tie to x
@@ -10,7 +10,7 @@ use Rattle.std.specs.Prelude.{◌≡◌, ℕ, ◌<◌, ◌≤◌, Bool, ◌&&◌
 use Rattle.network.specs.Meaning.{Meaning, tied, count_below}
 use Rattle.measure.specs.Tally.{tally}
 use Rattle.equivalence.specs.Totals.{total}
-use Rattle.equivalence.specs.Regular.{Table, Regular, mates}
+use Rattle.equivalence.specs.Regular.{Table, Regular, members}
 
 abbrev pub out_neighbours : Meaning → ℕ → (ℕ → Bool) → ℕ
 out_neighbours m x among = count_below (λ y. among y && tied m x y) m.nodes
@@ -20,8 +20,8 @@ in_neighbours m x among = count_below (λ y. among y && tied m y x) m.nodes
 
 -- x and y share a role, and z names any role
 pub record Equitable (m : Meaning) (role : Table) : Type 0 where
-  pub outgoing : (x y z : ℕ) → x < m.nodes → y < m.nodes → z < m.nodes → role x ≡ role y → out_neighbours m x (mates role z) ≡ out_neighbours m y (mates role z)
-  pub incoming : (x y z : ℕ) → x < m.nodes → y < m.nodes → z < m.nodes → role x ≡ role y → in_neighbours m x (mates role z) ≡ in_neighbours m y (mates role z)
+  pub outgoing : (x y z : ℕ) → x < m.nodes → y < m.nodes → z < m.nodes → role x ≡ role y → out_neighbours m x (members role (role z)) ≡ out_neighbours m y (members role (role z))
+  pub incoming : (x y z : ℕ) → x < m.nodes → y < m.nodes → z < m.nodes → role x ≡ role y → in_neighbours m x (members role (role z)) ≡ in_neighbours m y (members role (role z))
 
 pub record Counted (m : Meaning) (x : ℕ) (among : ℕ → Bool) : Type 0 where
   pub outgoing : (total tally m x among).out ≡ out_neighbours m x among

@@ -1,10 +1,12 @@
 pub mod Faults
 pub mod Totals
 pub mod Regular
+pub mod Heads
 pub mod Vetted
+pub mod Starting
 pub mod Coarsest
 pub mod Splitting
+pub mod Levels
 pub mod Classical
 pub mod Multiplex
 pub mod Equitable
-pub mod Levels

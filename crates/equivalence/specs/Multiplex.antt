@@ -1,4 +1,4 @@
--- Multiplex regular equivalence, over kinds 0 to 2 and their inverses. Assumes nothing.
+-- Multiplex regular equivalence, over kinds 0 to 2 and their inverses.
 --
 --   Bundled                x has a tie of one of these kinds with y, out or in
 --   SameBundle             a has with c the kinds that b has with d, out and in, those and only those

@@ -1,4 +1,4 @@
--- What the vet answers. Assumes nothing.
+-- What the vet answers.
 --
 --   table_of      the table that a list of bytes is: equal bytes are one role
 --   YesExactly    r says yes exactly when the table has one byte for each node, and is as P says

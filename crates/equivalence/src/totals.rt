@@ -1,19 +1,24 @@
 // What a node has with a set of nodes.
-ghost use Rattle.std.specs.Prelude.{◌≡◌, ℕ, Bool, filter, map};
-ghost use Rattle.std.specs.List.{fold, range_with_len};
+ghost use Rattle.std.specs.Prelude.{◌≡◌, ◌<◌, ℕ, Bool, filter, map};
+ghost use Rattle.std.specs.List.{All, fold, range_with_len};
 ghost use Rattle.equivalence.specs.Totals.{total, labelled};
 
 use measure::interface::Measure;
 use network::interface::Readable;
 
-// What y brings to a total of x: the byte that goes out to y, and the byte that comes in.
+// What y brings to a total of x.
 fn brought<N: Readable, M: Measure>(network: &N, measure: &M, x: usize, y: usize) -> M::Value
-    ensures { let m = N.Readable.meaning network.now in result ≡ M.Measure.ops.weigh (m.tie x y) (m.tie y x) }
+    requires of { x < (N.Readable.meaning network.now).nodes }
+    requires with { y < (N.Readable.meaning network.now).nodes }
+    ensures { let m = N.Readable.meaning network.now in
+        result ≡ M.Measure.ops.weigh (m.tie x y) (m.tie y x) }
 {
     measure.weigh(network.tie(x, y), network.tie(y, x))
 }
 
-// The total of x toward the nodes whose byte among the labels is `label`. One pass, and one weigh for each such node.
+/// The total of x toward the nodes whose byte among the labels is `label`. One pass, and one weigh
+/// for each such node. The engine's own, so that x is a node; bytes past the last node count for
+/// nothing, and a node past the last byte is not in the set.
 pub fn total_toward<N: Readable, M: Measure>(
     network: &N,
     measure: &M,
@@ -21,7 +26,9 @@ pub fn total_toward<N: Readable, M: Measure>(
     labels: &[u8],
     label: u8,
 ) -> M::Value
-    ensures { result ≡ total M.Measure.ops (N.Readable.meaning network.now) x (labelled labels.now label) }
+    requires { x < (N.Readable.meaning network.now).nodes }
+    ensures { let m = N.Readable.meaning network.now in
+        result ≡ total M.Measure.ops m x (labelled labels.now label) }
 {
     (0..network.nodes())
         .filter(|&y| labels.get(y) == Some(&label))
@@ -29,18 +36,24 @@ pub fn total_toward<N: Readable, M: Measure>(
         .fold(measure.none(), |sum, value| measure.join(sum, value))
 }
 
-// What x has with the nodes of a list, joined: its total toward a set, where the list has the nodes of the set in order.
-// One weigh for each of them.
+/// What x has with the nodes of a list, joined: its total toward a set, where the list has the
+/// nodes of the set in order. One weigh for each of them. The engine's own, so that x and those
+/// that are listed are nodes.
 pub fn total_over<N: Readable, M: Measure>(
     network: &N,
     measure: &M,
     x: usize,
     nodes: &[u8],
 ) -> M::Value
+    requires node { x < (N.Readable.meaning network.now).nodes }
+    requires nodes { All (λ y. y < (N.Readable.meaning network.now).nodes) nodes.now }
     ensures listed { let m = N.Readable.meaning network.now in
-        result ≡ fold M.Measure.ops.join M.Measure.ops.none (map (λ y. M.Measure.ops.weigh (m.tie x y) (m.tie y x)) nodes.now) }
-    ensures set { (among : ℕ → Bool) → nodes.now ≡ filter among (range_with_len 0 (N.Readable.meaning network.now).nodes) →
-        result ≡ total M.Measure.ops (N.Readable.meaning network.now) x among }
+        let o = M.Measure.ops in
+        result ≡ fold o.join o.none (map (λ y. o.weigh (m.tie x y) (m.tie y x)) nodes.now) }
+    ensures set { let m = N.Readable.meaning network.now in
+        (among : ℕ → Bool)
+        → nodes.now ≡ filter among (range_with_len 0 m.nodes)
+        → result ≡ total M.Measure.ops m x among }
 {
     nodes
         .iter()

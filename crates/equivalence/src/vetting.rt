@@ -1,7 +1,8 @@
 // Whether a table is regular.
-ghost use Rattle.std.specs.Prelude.{◌≡◌, ◌<◌, ◌≤◌, length, Decides, MatchOption};
+ghost use Rattle.std.specs.Prelude.{◌≡◌, ◌≢◌, ◌<◌, ◌≤◌, length, MatchOption};
 ghost use Rattle.equivalence.specs.Totals.{total, labelled};
-ghost use Rattle.equivalence.specs.Regular.{Agrees, Balanced, Heads, Regular, Strays, Unequal};
+ghost use Rattle.equivalence.specs.Regular.{Balanced, Regular, Unequal};
+ghost use Rattle.equivalence.specs.Heads.{head_of};
 ghost use Rattle.equivalence.specs.Vetted.{Vetted, table_of};
 
 use super::faults::Fault;
@@ -19,11 +20,11 @@ struct Vetting<'a, N: Readable, M: Measure> {
 }
 
 impl<'a, N: Readable, M: Measure> Vetting<'a, N, M> {
-    // The lowest node of x's role.
+    // The head of x's role.
     fn head(&self, x: usize) -> usize
         requires { x < length self.now.table.now }
         ensures within { result ≤ x }
-        ensures lowest { Heads (table_of self.now.table.now) result x }
+        ensures head { result ≡ head_of (table_of self.now.table.now) x }
     {
         (0..x)
             .find(|&k| self.table[k] == self.table[x])
@@ -32,15 +33,21 @@ impl<'a, N: Readable, M: Measure> Vetting<'a, N, M> {
 
     // The total of x toward a role.
     fn total(&self, x: usize, role: u8) -> M::Value
-        ensures { result ≡ total M.Measure.ops (N.Readable.meaning self.now.network.now) x (labelled self.now.table.now role) }
+        requires { x < length self.now.table.now }
+        ensures { let m = N.Readable.meaning self.now.network.now in
+            result ≡ total M.Measure.ops m x (labelled self.now.table.now role) }
     {
         total_toward(self.network, self.measure, x, self.table, role)
     }
 
-    // Whether y has the total toward the role that the lowest node of its own role has.
+    // Whether y has the total toward the role that the head of its own role has.
     fn agrees(&self, y: usize, role: u8) -> bool
         requires { y < length self.now.table.now }
-        ensures { Decides result (Agrees M.Measure.ops (N.Readable.meaning self.now.network.now) (table_of self.now.table.now) (labelled self.now.table.now role) y) }
+        ensures { let m = N.Readable.meaning self.now.network.now in
+            let head = head_of (table_of self.now.table.now) y in
+            let among = labelled self.now.table.now role in
+            let o = M.Measure.ops in
+            result ≡ o.same (total o m head among) (total o m y among) }
     {
         let x = self.head(y);
         x == y || self.measure.same(self.total(x, role), self.total(y, role))
@@ -48,21 +55,24 @@ impl<'a, N: Readable, M: Measure> Vetting<'a, N, M> {
 
     // The first node that does not agree, none where the table is balanced toward the role.
     fn stray(&self, role: u8) -> Option<usize>
-        ensures { MatchOption result
-            (Balanced M.Measure.ops (N.Readable.meaning self.now.network.now) (table_of self.now.table.now) (labelled self.now.table.now role))
-            (Strays M.Measure.ops (N.Readable.meaning self.now.network.now) (table_of self.now.table.now) (labelled self.now.table.now role)) }
+        ensures { let o = M.Measure.ops in
+            let m = N.Readable.meaning self.now.network.now in
+            let at = table_of self.now.table.now in
+            let among = labelled self.now.table.now role in
+            MatchOption result
+            (Balanced o m at among)
+            (λ y. (y < m.nodes) × (total o m (head_of at y) among ≢ total o m y among)) }
     {
         (0..self.table.len()).find(|&y| !self.agrees(y, role))
     }
 
     // Three nodes that show that the table is not regular, or none where it is.
     fn witness(&self) -> Option<(usize, usize, usize)>
-        ensures { MatchOption result
-            (Regular M.Measure.ops (N.Readable.meaning self.now.network.now) (table_of self.now.table.now))
-            (λ w. Unequal M.Measure.ops (N.Readable.meaning self.now.network.now) (table_of self.now.table.now) w.0 w.1 w.2) }
+        ensures { let o = M.Measure.ops in
+            let m = N.Readable.meaning self.now.network.now in
+            let at = table_of self.now.table.now in
+            MatchOption result (Regular o m at) (λ w. Unequal o m at w.0 w.1 w.2) }
     {
-        // A `for`: where a filter's test is no function of the node, as `head` is none here, nothing is known of the nodes
-        // that it leaves out; std has no lemma on a `find_map` over a range; and a `find` would have to call `stray` twice.
         for z in 0..self.table.len() {
             if self.head(z) == z {
                 if let Some(y) = self.stray(self.table[z]) {
@@ -74,9 +84,11 @@ impl<'a, N: Readable, M: Measure> Vetting<'a, N, M> {
     }
 }
 
-// Whether the table is regular, equal bytes being one role: none where it is, else three nodes that show that it is not.
-// At most 2 n * n weighs and 3 n * n * n comparisons of table bytes; no memory but the answer.
-// The nodes are plain numbers in the answer, as in every call of the engine.
+/// Whether the table is regular, equal bytes being one role: none where it is, else three nodes
+/// x, y and z that show that it is not: x and y share a role, and have unequal totals toward z's.
+/// Refuses a table that has not one byte for each node. Alters nothing.
+///
+/// At most 2 n * n weighs and 3 n * n * n comparisons of table bytes, and no memory.
 pub fn vet<N: Readable, M: Measure>(
     network: &N,
     measure: &M,

@@ -1,10 +1,10 @@
--- A check answers where a question is askable, and refuses as each refusal says. Assumes nothing.
+-- A check answers where a question is askable, and refuses as each refusal says.
 use Rattle.std.proofs.Common.{◌≡◌, ℕ, zero, suc, ◌+◌, ◌-◌, ◌*◌, ◌<◌, ◌||◌, eqb, ltb, Bool, true, false, cond, List, [], ◌∷◌, length, Option, Some, None, Result, Ok, Err, MatchResult, refl, inl, inr, arith}
 use Rattle.std.proofs.Math.Nat.{mul-le-mul_right}
 use Rattle.std.proofs.lemmas.Bool.{cases_eq}
 use Rattle.std.proofs.lemmas.Bool.Decides.{nat_tests}
-use Rattle.question.specs.Lines.{claim, earlier}
-use Rattle.question.specs.Checks.{line_check, lines_check, line_at, OneTo32, Passes, Askable, Refuses, ChecksLaw}
+use Rattle.question.specs.Lines.{claim, earlier, line_at, Passes}
+use Rattle.question.specs.Checks.{line_check, lines_check, OneTo32, EachPasses, Askable, Refuses, ChecksLaw}
 use Rattle.question.specs.declared.line.Line.{Line}
 use Rattle.question.specs.declared.line.Claim.{Claim}
 use Rattle.question.specs.declared.faults.Fault.{Fault}
@@ -55,7 +55,7 @@ module _ (lines : List Line) (width size : ℕ) where
   abbrev needed : ℕ
   needed = length lines * width
 
-  every : All 0 lines → (k : ℕ) → k < length lines → Passes k (line_at lines k)
+  every : All 0 lines → EachPasses lines
   every each k l = let same : 0 + k ≡ k = omega arith in rw same at (each k l)
 
   module _ (counted : OneTo32 lines) where

@@ -1,4 +1,5 @@
-pub mod Checked
+pub mod Passing
 pub mod ChecksLaw
 pub mod Rowing
+pub mod TruthLaw
 pub mod Agreement

@@ -1,16 +1,16 @@
--- What a handed area holds after a question. Assumes nothing.
+-- What a handed area holds after a question.
 --
 --   row_bytes      a row of this width: 1 where it is true, 0 where it is not
 --   area_after     the rows one after another, and then what the area held; all that it held, where the question is refused
---   looked         the area after look: each node is asked
---   asked          the area after ask: each role of a table is asked, through its head
---   NodesAnswered  row by row, an area has at the place of each node what the network answers for the node
+--   looked         the area after look: a row has a column for each node
+--   asked          the area after ask: a row has a column for each role of a table, and its head stands for it
+--   NodesAnswered  row by row, an area has at the column of each node what the network answers for the node
 use Rattle.std.specs.Prelude.{◌≡◌, ℕ, ◌+◌, ◌*◌, ◌<◌, Bool, cond, List, ◌++◌, length, map, drop, flat_map, slice_index, Result, Ok, Err}
 use Rattle.std.specs.List.{range_with_len}
 use Rattle.network.specs.Meaning.{Meaning}
 use Rattle.measure.specs.Measures.{Operations}
 use Rattle.equivalence.specs.Regular.{Table}
-use Rattle.equivalence.specs.Coarsest.{roles}
+use Rattle.equivalence.specs.Heads.{roles}
 use Rattle.question.specs.Checks.{answer_start}
 use Rattle.question.specs.Truth.{row, rows, answer, each_node, each_role}
 use Rattle.question.specs.declared.line.Line.{Line}
@@ -32,6 +32,6 @@ module _ {V : Type 0} (o : Operations V) (m : Meaning) (colours : Table) where
       area_after (answer_start lines width (length area)) width (rows o m colours (each_role role head) lines) area
 
   -- in rows of this width, of which the last one starts here
-  pub record NodesAnswered (lines : List Line) (place : ℕ → ℕ) (width start : ℕ) (area : List ℕ) : Type 0 where
-    pub each : (k x : ℕ) → k < length lines → x < m.nodes → slice_index area (k * width + place x) ≡ cond (row (rows o m colours each_node lines) k x) 1 0
-    pub last : (x : ℕ) → x < m.nodes → slice_index area (start + place x) ≡ cond (answer o m colours each_node lines x) 1 0
+  pub record NodesAnswered (lines : List Line) (column : ℕ → ℕ) (width start : ℕ) (area : List ℕ) : Type 0 where
+    pub each : (k x : ℕ) → k < length lines → x < m.nodes → slice_index area (k * width + column x) ≡ cond (row (rows o m colours each_node lines) k x) 1 0
+    pub last : (x : ℕ) → x < m.nodes → slice_index area (start + column x) ≡ cond (answer o m colours each_node lines x) 1 0

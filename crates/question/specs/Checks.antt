@@ -1,17 +1,16 @@
--- When a question can be answered. Assumes nothing.
+-- When a question can be answered.
 --
 --   line_check     of line `at`: its code is known (7), and it names only earlier lines (8)
 --   lines_check    line by line, from line `at` on; the first refusal
 --   answer_start   where the last row starts, or the first no of: 1 to 32 lines (6), each line (7, 8), the area (9)
---   line_at        a line of the question
 --   OneTo32        there are 1 to 32 lines
---   Passes         line k is of a known code, and names only lines before it
+--   EachPasses     every line passes
 --   Reached        there are 1 to 32 lines, and those before line k pass
---   Askable        1 to 32 lines, all of which pass, and an area with a byte for each line and place
+--   Askable        1 to 32 lines, all of which pass, and an area with a byte for each line and column
 --   Refuses        what each refusal says
 --   ChecksLaw      so it is with every question: an answer where it is askable, and else what the refusal says
-use Rattle.std.specs.Prelude.{◌≡◌, ◌<◌, ◌≤◌, ◌⊎◌, true, false, slice_index_or, MatchResult, ℕ, ◌+◌, ◌-◌, ◌*◌, cond, ◌||◌, ◌==◌, nat_lt, List, [], ◌∷◌, length, Some, None, Result, Ok, Err}
-use Rattle.question.specs.Lines.{claim, earlier}
+use Rattle.std.specs.Prelude.{◌≡◌, ◌<◌, ◌≤◌, ◌⊎◌, false, MatchResult, ℕ, ◌+◌, ◌-◌, ◌*◌, cond, ◌||◌, ◌==◌, nat_lt, List, [], ◌∷◌, length, Some, None, Result, Ok, Err}
+use Rattle.question.specs.Lines.{claim, earlier, line_at, Passes}
 use Rattle.question.specs.declared.line.Line.{Line}
 use Rattle.question.specs.declared.line.Claim.{Claim}
 use Rattle.question.specs.declared.faults.Fault.{Fault}
@@ -34,15 +33,12 @@ answer_start lines width size =
       | Err f ↦ Err f
     ])
 
-abbrev pub line_at : List Line → ℕ → Line
-line_at lines k = slice_index_or lines k (record { code = 0; k = 0; l = 0; byte = 0 })
-
 pub record OneTo32 (lines : List Line) : Type 0 where
   pub some : 0 < length lines
   pub few : length lines ≤ 32
 
-abbrev pub Passes : ℕ → Line → Type 0
-Passes k line = (c : Claim) × (claim line ≡ Some c) × (earlier k c ≡ true)
+abbrev pub EachPasses : List Line → Type 0
+EachPasses lines = (k : ℕ) → k < length lines → Passes k (line_at lines k)
 
 pub record Reached (lines : List Line) (k : ℕ) : Type 0 where
   pub counted : OneTo32 lines
@@ -51,14 +47,14 @@ pub record Reached (lines : List Line) (k : ℕ) : Type 0 where
 
 pub record Askable (lines : List Line) (width size : ℕ) : Type 0 where
   pub counted : OneTo32 lines
-  pub each : (k : ℕ) → k < length lines → Passes k (line_at lines k)
+  pub each : EachPasses lines
   pub room : length lines * width ≤ size
 
 abbrev pub Refuses : List Line → ℕ → ℕ → Fault → Type 0
 Refuses lines width size Lines = (length lines ≡ 0) ⊎ (32 < length lines)
 Refuses lines width size (Code k) = Reached lines k × (claim (line_at lines k) ≡ None)
 Refuses lines width size (Later k) = Reached lines k × ((c : Claim) × (claim (line_at lines k) ≡ Some c) × (earlier k c ≡ false))
-Refuses lines width size Area = OneTo32 lines × ((k : ℕ) → k < length lines → Passes k (line_at lines k)) × (size < length lines * width)
+Refuses lines width size Area = OneTo32 lines × EachPasses lines × (size < length lines * width)
 
 abbrev pub ChecksLaw : Type 0
 ChecksLaw = (lines : List Line) (width size : ℕ) → MatchResult (answer_start lines width size) (λ start. Askable lines width size × (start + width ≡ length lines * width)) (Refuses lines width size)

@@ -1,4 +1,4 @@
--- The number, the layer, the line and the words of each refusal of a question. Assumes nothing.
+-- The number, the layer, the line and the words of each refusal of a question.
 use Rattle.std.specs.Prelude.{ℕ, List, ◌++◌, codes, decimal, Option, Some, None}
 use Rattle.network.specs.declared.faults.Layer.{Layer}
 use Rattle.question.specs.declared.faults.Fault.{Fault}

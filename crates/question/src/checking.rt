@@ -5,7 +5,8 @@ ghost use Rattle.question.specs.Checks.{line_check, lines_check, answer_start, C
 use super::faults::Fault;
 use super::line::Line;
 
-/// Line `at` of a question: its code (7), and then the lines that it names (8).
+/// Whether line `at` of a question can be answered: of a known code (7), and then naming only lines
+/// before it (8).
 pub fn check_line(at: usize, line: Line) -> Result<(), Fault>
     ensures { result ≡ line_check at line }
 {
@@ -25,7 +26,8 @@ fn check_lines(question: &[Line]) -> Result<(), Fault>
     Ok(())
 }
 
-/// Where the last row starts, in an area of so many bytes with a row of this width for each line.
+/// Where the last row starts, in an area of `size` bytes with a row of `width` bytes for each line.
+/// The first no is told: 1 to 32 lines (6), line by line (7, 8), the area (9).
 #[tactic(auto, using(crate::proofs::ChecksLaw::checks_law))]
 pub fn check(question: &[Line], width: usize, size: usize) -> Result<usize, Fault>
     ensures answer { result ≡ answer_start question.now width size }

@@ -15,7 +15,7 @@ pub enum Fault {
     Code(usize),
     /// This line names a line that is not earlier.
     Later(usize),
-    /// The handed area has not a byte for each line and place.
+    /// The handed area has not a byte for each line and column.
     Area,
 }
 

@@ -3,19 +3,21 @@ ghost use Rattle.std.specs.Prelude.{◌≡◌, Some};
 ghost use Rattle.question.specs.Lines.{claim, earlier};
 ghost use Rattle.question.specs.declared.line.Claim.{Claim};
 
-/// As it is handed: a code, and the operands that a code can have. What its code has not is not
-/// read.
+/// As it is handed: a code and operands. An operand that the code has not is not read, and may be
+/// anything.
 #[derive(Clone, Copy, PartialEq, Eq, Debug, Default)]
 pub struct Line {
+    /// 0 colour, 1 not, 2 and, 3 tied.
     pub code: u8,
-    /// Lines that it names.
+    /// A line that it names: of not, and, tied.
     pub k: usize,
+    /// A second one: of and.
     pub l: usize,
-    /// A colour or a test.
+    /// The colour of colour, the test of tied.
     pub byte: u8,
 }
 
-/// What a line says of a node.
+/// What a line says of a node, with the operands that its code has.
 #[derive(Clone, Copy, PartialEq, Eq, Debug)]
 pub enum Claim {
     /// It has the colour.
@@ -29,7 +31,7 @@ pub enum Claim {
 }
 
 impl Line {
-    /// The nodes of colour c. Operands that its code has not are 0.
+    /// True of the nodes of colour c. As in the other makers, operands that the code has not are 0.
     pub fn colour(c: u8) -> Line
         ensures line { result ≡ record { code = 0; k = 0; l = 0; byte = c } }
         ensures claim { claim result ≡ Some (Claim.Colour c) }
@@ -41,7 +43,7 @@ impl Line {
         }
     }
 
-    /// The nodes that line k is false of.
+    /// True of the nodes that line k is false of.
     pub fn not(k: usize) -> Line
         ensures line { result ≡ record { code = 1; k = k; l = 0; byte = 0 } }
         ensures claim { claim result ≡ Some (Claim.Not k) }
@@ -53,7 +55,7 @@ impl Line {
         }
     }
 
-    /// The nodes that lines k and l are true of.
+    /// True of the nodes that lines k and l are both true of.
     pub fn and(k: usize, l: usize) -> Line
         ensures line { result ≡ record { code = 2; k = k; l = l; byte = 0 } }
         ensures claim { claim result ≡ Some (Claim.And k l) }
@@ -66,7 +68,7 @@ impl Line {
         }
     }
 
-    /// The nodes whose total toward those of line k holds test t.
+    /// True of the nodes whose total toward those of line k holds test t, by the session's measure.
     pub fn tied(k: usize, t: u8) -> Line
         ensures line { result ≡ record { code = 3; k = k; l = 0; byte = t } }
         ensures claim { claim result ≡ Some (Claim.Tied k t) }
@@ -79,7 +81,7 @@ impl Line {
         }
     }
 
-    /// What the line claims, none where its code is unknown.
+    /// What the line claims; none where its code is unknown.
     pub fn claim(self) -> Option<Claim>
         ensures { result ≡ claim self }
     {

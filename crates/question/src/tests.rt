@@ -94,7 +94,7 @@ fn the_first_no_is_told(rt: HostRuntime) {
 }
 
 #[test]
-fn the_area_has_a_byte_for_each_line_and_place(rt: HostRuntime) {
+fn the_area_has_a_byte_for_each_line_and_column(rt: HostRuntime) {
     let lines = [Line::colour(1), Line::not(0), Line::and(0, 1)];
     assert_eq!(rt; check(&lines, 5, 15), Ok(10));
     assert_eq!(rt; check(&lines, 5, 14), Err(Fault::Area));
@@ -106,7 +106,7 @@ fn the_area_has_a_byte_for_each_line_and_place(rt: HostRuntime) {
 }
 
 #[test]
-fn without_places_every_row_is_empty(rt: HostRuntime) {
+fn without_columns_every_row_is_empty(rt: HostRuntime) {
     let lines = [Line::colour(1), Line::not(0)];
     assert_eq!(rt; check(&lines, 0, 0), Ok(0));
     assert_eq!(rt; check(&lines, 0, 4), Ok(0));

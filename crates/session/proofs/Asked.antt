@@ -1,4 +1,4 @@
--- What the rows of an area say, after look and after ask. Assumes nothing.
+-- What the rows of an area say, after look and after ask.
 use Rattle.std.proofs.Common.{◌≡◌, ℕ, suc, ◌+◌, ◌-◌, ◌*◌, ◌<◌, Bool, cond, List, ◌++◌, length, get_or, flat_map, slice_index, Result, Ok, Err, IfOk, refl, ap, sym, ◌∙◌, add-one, suc-mul, arith}
 use Rattle.std.proofs.Math.Nat.{mul-le-mul_right}
 use Rattle.std.proofs.lemmas.List.{get_or_append_left}
@@ -6,13 +6,13 @@ use Rattle.network.specs.Meaning.{Meaning}
 use Rattle.measure.specs.Measures.{Operations, Laws}
 use Rattle.equivalence.specs.Regular.{Table, Regular}
 use Rattle.question.specs.Checks.{answer_start}
-use Rattle.question.specs.Truth.{Places, row, rows, each_node, each_role}
+use Rattle.question.specs.Truth.{Columns, row, rows, each_node, each_role, Quotient}
 use Rattle.question.specs.Areas.{row_bytes, area_after, NodesAnswered}
 use Rattle.question.specs.declared.line.Line.{Line}
 use Rattle.question.specs.declared.faults.Fault.{Fault}
-use Rattle.question.proofs.Checked.{accepted}
+use Rattle.question.proofs.Passing.{accepted}
 use Rattle.question.proofs.Rowing as rowing
-use Rattle.question.proofs.Agreement.{roles_answer}
+use Rattle.question.proofs.Agreement.{roles_answer, within_colours}
 use Rattle.session.specs.Questions.{ask_answer, look_answer, after_ask, after_look, AnswersNodes, AnswersRoles}
 use Rattle.session.specs.States.{State, IsSound, role, role_count}
 use Rattle.session.proofs.Rows.{read_row, length_rows}
@@ -21,28 +21,28 @@ one_less : (n : ℕ) → 0 < n → suc (n - 1) ≡ n
 one_less n some = omega arith
 
 -- a byte of the row of line k
-row_byte : (width : ℕ) (told : List (ℕ → Bool)) (rest : List ℕ) (k p : ℕ) → k < length told → p < width → get_or (flat_map (row_bytes width) told ++ rest) (k * width + p) 0 ≡ cond (row told k p) 1 0
-row_byte width told rest k p line l =
-    let within : k * width + width < length told * width + 1 = omega (arith, suc-mul k width, mul-le-mul_right {m = k + 1} {n = length told} width (omega (arith, line)), ap (λ j. j * width) (sym (add-one k))) in
-    get_or_append_left (flat_map (row_bytes width) told) rest 0 (k * width + p) (omega (arith, length_rows width told, within))
-    ∙ read_row width told k p line l
+row_byte : (width : ℕ) (truths : List (ℕ → Bool)) (rest : List ℕ) (k p : ℕ) → k < length truths → p < width → get_or (flat_map (row_bytes width) truths ++ rest) (k * width + p) 0 ≡ cond (row truths k p) 1 0
+row_byte width truths rest k p line l =
+    let within : k * width + width < length truths * width + 1 = omega (arith, suc-mul k width, mul-le-mul_right {m = k + 1} {n = length truths} width (omega (arith, line)), ap (λ j. j * width) (sym (add-one k))) in
+    get_or_append_left (flat_map (row_bytes width) truths) rest 0 (k * width + p) (omega (arith, length_rows width truths, within))
+    ∙ read_row width truths k p line l
 
 module _ {V : Type 0} (o : Operations V) (m : Meaning) (colours : Table) (lines : List Line) where
-  abbrev told : Places → List (ℕ → Bool)
-  told at = rows o m colours at lines
+  abbrev truths : Columns → List (ℕ → Bool)
+  truths at = rows o m colours at lines
 
-  -- rows at places, where they say at each node's place what the network's rows say of the node
+  -- rows by columns, where they say at the column of each node what the network's rows say of the node
   nodes_answered :
-      (at : Places) (width start : ℕ) (area : List ℕ)
+      (at : Columns) (width start : ℕ) (area : List ℕ)
       → answer_start lines width (length area) ≡ Ok start
-      → ((x : ℕ) → x < m.nodes → at.place x < width)
-      → ((k x : ℕ) → x < m.nodes → row (told at) k (at.place x) ≡ row (told each_node) k x)
-      → NodesAnswered o m colours lines at.place width start (area_after (answer_start lines width (length area)) width (told at) area)
+      → ((x : ℕ) → x < m.nodes → at.column x < width)
+      → ((k x : ℕ) → x < m.nodes → row (truths at) k (at.column x) ≡ row (truths each_node) k x)
+      → NodesAnswered o m colours lines at.column width start (area_after (answer_start lines width (length area)) width (truths at) area)
   nodes_answered at width start area passes ranged agree =
       let (some, at_last) = accepted lines width (length area) start passes in
-      let byte : (k x : ℕ) → k < length lines → x < m.nodes → slice_index (area_after (answer_start lines width (length area)) width (told at) area) (k * width + at.place x) ≡ cond (row (told each_node) k x) 1 0 =
+      let byte : (k x : ℕ) → k < length lines → x < m.nodes → slice_index (area_after (answer_start lines width (length area)) width (truths at) area) (k * width + at.column x) ≡ cond (row (truths each_node) k x) 1 0 =
       λ k x line node. rw passes
-      (row_byte width (told at) _ k (at.place x) (omega (arith, line, rowing.length_rows o m colours at lines)) (ranged x node)
+      (row_byte width (truths at) _ k (at.column x) (omega (arith, line, rowing.length_rows o m colours at lines)) (ranged x node)
       ∙ ap {B = ℕ} (λ b. cond b 1 0) (agree k x node))
       in
       let last_start : start ≡ (length lines - 1) * width = omega (arith, some, at_last, suc-mul (length lines - 1) width, ap (λ k. k * width) (one_less (length lines) some)) in
@@ -55,11 +55,19 @@ module _ {V : Type 0} (o : Operations V) (s : State) (lines : List Line) (area :
   pub look_answers : look_answer s lines area ≡ Ok start → AnswersNodes o s lines start (after_look o s lines area)
   look_answers passes = nodes_answered o s.network s.colours lines each_node s.network.nodes start area passes (λ x l. l) (λ k x l. refl)
 
+  -- the heads of a settled table stand for its roles
+  quotient : IsSound o s → Regular o s.network (role s) → Quotient o s.network s.colours (role s) s.head
+  quotient sound regular =
+      record {
+        regular = regular;
+        within = within_colours s.network.nodes s.network s.colours (role s) sound.covers.within;
+        heads = λ x l. let head = sound.described (role s x) (sound.ranged x l) in (head.node, head.mate);
+      }
+
   pub ask_answers : Laws o → IsSound o s → Regular o s.network (role s) → ask_answer s lines area ≡ Ok start → AnswersRoles o s lines start (after_ask o s lines area)
   ask_answers laws sound regular passes =
       nodes_answered o s.network s.colours lines (each_role (role s) s.head) (role_count s) start area passes sound.ranged
-      (roles_answer o laws s.network s.colours (role s) s.head regular sound.between.within
-      (λ x l. let told = sound.described (role s x) (sound.ranged x l) in (told.node, told.mate)) lines)
+      (roles_answer o laws s.network s.colours (role s) s.head (quotient sound regular) lines)
 
 -- the same of what ask gives back
 pub ask_agrees :

@@ -1,6 +1,6 @@
--- Rows of truth, read off the bytes of an area. Assumes nothing.
+-- Rows of truth, read off the bytes of an area.
 --
---   marked    line k is true at place p
+--   marked    line k is true at column p
 --   Written   the bytes have a row for each line that the claim names
 use Rattle.std.specs.Prelude.{ℕ, ◌+◌, ◌*◌, ◌≤◌, Bool, ◌==◌, List, slice_index}
 use Rattle.question.specs.declared.line.Claim.{Claim}

@@ -1,4 +1,4 @@
--- What look and ask answer, and what the area then holds. Assumes nothing.
+-- What look and ask answer, and what the area then holds.
 --
 --   look_answer      where the last row of look starts, or the refusal
 --   ask_answer       where the last row of ask starts, or the refusal

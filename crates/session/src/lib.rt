@@ -6,8 +6,8 @@
 pub mod role;
 // The table of roles.
 mod table;
-// Where a question is answered.
-mod places;
+// What a row of an answer has columns for.
+mod columns;
 // The refusals of a session.
 pub mod faults;
 // What a step does.

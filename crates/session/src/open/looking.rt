@@ -1,10 +1,11 @@
 // What a session answers to a question: at each node, and at each role.
 ghost use Rattle.std.specs.Prelude.{◌≡◌, IfOk};
+ghost use Rattle.question.specs.Truth.{TruthLaw};
 ghost use Rattle.session.specs.OpenSessions.{state_of};
 ghost use Rattle.session.specs.Questions.{AnswersNodes, after_ask, after_look};
 ghost use Rattle.session.specs.Questions.{ask_answer, look_answer};
 
-use super::super::places::EachNode;
+use super::super::columns::EachNode;
 use super::Open;
 use measure::interface::Measure;
 use network::interface::Editable;
@@ -18,6 +19,7 @@ impl<N: Editable, M: Measure> Open<N, M> {
         ensures start { result ≡ look_answer (state_of self.now) question.now area.old }
         ensures area { let s = state_of self.now in
             area.new ≡ after_look M.Measure.ops s question.now area.old }
+        ensures truth { TruthLaw M.Measure.ops }
         ensures agrees { let s = state_of self.now in
             IfOk result (λ start. AnswersNodes M.Measure.ops s question.now start area.new) }
     {

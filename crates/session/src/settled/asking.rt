@@ -1,5 +1,6 @@
 // What a settled session answers to a question.
 ghost use Rattle.std.specs.Prelude.{◌≡◌, IfOk};
+ghost use Rattle.question.specs.Truth.{RolesAnswer};
 ghost use Rattle.session.specs.Questions.{AnswersNodes, AnswersRoles, after_ask};
 ghost use Rattle.session.specs.Questions.{after_look, ask_answer, look_answer};
 ghost use Rattle.session.specs.SettledSessions.{settled_state};
@@ -28,6 +29,7 @@ impl<N: Editable, M: Measure> Settled<N, M> {
         ensures start { result ≡ ask_answer (settled_state self.now) question.now area.old }
         ensures area { let s = settled_state self.now in
             area.new ≡ after_ask M.Measure.ops s question.now area.old }
+        ensures roles { RolesAnswer M.Measure.ops }
         ensures agrees { let s = settled_state self.now in
             IfOk result (λ start. AnswersRoles M.Measure.ops s question.now start area.new) }
     {

@@ -466,7 +466,7 @@ fn alternate(area: &[u8], lines: usize, width: usize) -> bool {
 }
 
 #[test]
-fn the_area_has_a_byte_for_each_line_and_place(rt: HostRuntime) -> Result<(), Fail> {
+fn the_area_has_a_byte_for_each_line_and_column(rt: HostRuntime) -> Result<(), Fail> {
     let open = tied(&rt, matrix(rt.alloc(), 5)?, Kinds, &TEAMS);
     let settled = tied(&rt, matrix(rt.alloc(), 5)?, Kinds, &TEAMS).settle();
     let mut question: [Line; 32] = array::from_fn(|k| Line::not(k.saturating_sub(1)));

@@ -1,9 +1,14 @@
-use Rattle.std.proofs.Common.{◌∙◌}
-use Rattle.session.proofs.Keeping.{sound_begun}
+use Rattle.std.proofs.Common.{rules, ◌≡◌, ℕ, ◌+◌, ◌-◌, ◌*◌, ◌<◌, ◌≤◌, length, ◌/◌, ◌%◌, Bool, true, false, nat_eq, nat_lt, List, [], ◌∷◌, ◌++◌, slice_index_or, slice_set, bit_and, bit_or, Fits, w8, w32, w64, Bor, MutBor}
+use Rattle.network.specs.Put.{put_answer, put_after}
+use Rattle.session.specs.States.{IsSound, state_with}
+use Rattle.session.specs.Sessions.{Begun, Edited, colour_answer, colours_after}
+use Rattle.session.specs.OpenSessions.{state_of, parts_of}
 use Rattle.session.proofs.open.Open.colour.Goals as goal
 
+-- src/open.rt:76:9
 pub invariant_of-self : goal.invariant_of-self
-invariant_of-self g c =
-    let s = c.args.self.now in
-    let begun = c.colour.ensures in
-    record { sound = sound_begun c.colour.new.self g.M.Measure.ops (g.N.Readable.meaning s.network) (begun.nodes ∙ s.sound.entries) (rw s.sound.entries at begun.start) begun.splits }
+invariant_of-self g c = ?
+
+-- src/open.rt:64:5
+pub returns-clause-edited : goal.returns-clause-edited
+returns-clause-edited g c = ?

@@ -5,4 +5,4 @@ use Rattle.session.proofs.open.Open.true_nodes.Given as goal
 
 -- those below y
 abbrev pub invariant-loop-y : goal.invariant-loop-y
-invariant-loop-y g l = (l.nodes.items ≡ filter (λ y. marked l.width l.rows l.k ((g.P.Places.places l.places).place y)) (range_with_len 0 l.y)) × (length l.nodes.items ≤ l.y)
+invariant-loop-y g l = (l.nodes.items ≡ filter (λ y. marked l.width l.rows l.k ((g.C.Columns.columns l.columns).column y)) (range_with_len 0 l.y)) × (length l.nodes.items ≤ l.y)

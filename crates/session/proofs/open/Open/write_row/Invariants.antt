@@ -1,11 +1,19 @@
-use Rattle.std.proofs.Common.{◌≡◌, ◌<◌, ℕ, get_or, cond}
 use Rattle.question.specs.Truth.{claimed}
+use Rattle.question.specs.declared.line.Claim.{Claim}
 use Rattle.session.specs.Marks.{marked}
 use Rattle.session.specs.Tables.{class_in}
+use Rattle.session.proofs.Rows.{Filled}
 use Rattle.session.proofs.open.Open.write_row.Given as goal
 
--- the bytes at the places below p are written
+-- of each claim, the bytes in the columns below p are written
 abbrev pub invariant-loop-p : goal.invariant-loop-p
-invariant-loop-p g l =
-    let width = g.P.Places.width l.places in
-    (k : ℕ) → k < l.p → get_or l.row k 0 ≡ cond (claimed g.M.Measure.ops (g.N.Readable.meaning l.self.network) (class_in l.self.table) (g.P.Places.places l.places) (marked width l.rows) l.claim k) 1 0
+invariant-loop-p g l = Filled l.row l.p (claimed g.M.Measure.ops (g.N.Readable.meaning l.self.network) (class_in l.self.table) (g.C.Columns.columns l.columns) (marked (g.C.Columns.width l.columns) l.rows) (Claim.Colour l.c))
+
+abbrev pub invariant-loop-p-2 : goal.invariant-loop-p-2
+invariant-loop-p-2 g l = Filled l.row l.p (claimed g.M.Measure.ops (g.N.Readable.meaning l.self.network) (class_in l.self.table) (g.C.Columns.columns l.columns) (marked (g.C.Columns.width l.columns) l.rows) (Claim.Not l.k))
+
+abbrev pub invariant-loop-p-3 : goal.invariant-loop-p-3
+invariant-loop-p-3 g l = Filled l.row l.p (claimed g.M.Measure.ops (g.N.Readable.meaning l.self.network) (class_in l.self.table) (g.C.Columns.columns l.columns) (marked (g.C.Columns.width l.columns) l.rows) (Claim.And l.k l.l))
+
+abbrev pub invariant-loop-p-4 : goal.invariant-loop-p-4
+invariant-loop-p-4 g l = Filled l.row l.p (claimed g.M.Measure.ops (g.N.Readable.meaning l.self.network) (class_in l.self.table) (g.C.Columns.columns l.columns) (marked (g.C.Columns.width l.columns) l.rows) (Claim.Tied l.k l.t))

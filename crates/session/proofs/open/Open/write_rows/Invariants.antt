@@ -7,5 +7,5 @@ use Rattle.session.proofs.open.Open.write_rows.Given as goal
 -- the rows of the lines before line k are written
 abbrev pub invariant-loop-k : goal.invariant-loop-k
 invariant-loop-k g l =
-    let before = rows g.M.Measure.ops (g.N.Readable.meaning l.self.network) (class_in l.self.table) (g.P.Places.places l.places) (take l.k l.question) in
+    let before = rows g.M.Measure.ops (g.N.Readable.meaning l.self.network) (class_in l.self.table) (g.C.Columns.columns l.columns) (take l.k l.question) in
     l.area ≡ flat_map (row_bytes l.width) before ++ drop (l.k * l.width) l.fn.area
