@@ -10,14 +10,14 @@ use Rattle.measure.specs.Bundles.{bundles}
 use Rattle.measure.specs.BundleLaws.{bundles_laws}
 use Rattle.measure.specs.Tally.{tally}
 use Rattle.measure.specs.TallyLaws.{tally_laws}
-use Rattle.equivalence.specs.Coarsest.{roles}
+use Rattle.equivalence.specs.Heads.{roles}
 use Rattle.equivalence.specs.Regular.{Unequal}
 use Rattle.equivalence.specs.Vetted.{table_of, Vetted}
 use Rattle.equivalence.specs.declared.faults.Fault.{Fault}
 use Rattle.equivalence.specs.Levels.{coarsest_table}
-use Rattle.equivalence.proofs.Levels.{coarsest_length, coarsest_level, named_lowest}
+use Rattle.equivalence.proofs.Levels.{coarsest_length, coarsest_level, named_head}
 use Rattle.driving.specs.Book.{Book, opened}
-use Rattle.driving.specs.Known.{drawn, edited, replies, started, AllKnown, Known, KnownBy, KnownUnder, Shows}
+use Rattle.driving.specs.Known.{classes, drawn, edited, replies, started, AllKnown, Known, KnownBy, KnownUnder, Shows}
 use Rattle.driving.specs.declared.call.Edit.{Edit}
 use Rattle.driving.specs.declared.call.Reply.{Reply}
 use Rattle.driving.specs.declared.known.Irregular.{Irregular}
@@ -54,20 +54,19 @@ each_shown o m (irregular ∷ more) shown = All-cons (Shows o m) irregular more 
 -- what there is to compute of an entry
 pub record Computed {V : Type 0} (o : Operations V) (known : KnownNetwork) : Type 0 where
   pub replied : replies (opened (started known.start)) known.edits.now ≡ map (λ edit. edit.1) known.edits.now
-  pub table : coarsest_table o (drawn known).network (drawn known).colours ≡ known.table.now
+  pub table : coarsest_table o (drawn known).network (classes known) ≡ known.table.now
   pub count : roles (table_of known.table.now) (drawn known).network.nodes ≡ known.roles
-  pub splits : known.splits + roles (drawn known).colours (drawn known).network.nodes ≡ known.roles
+  pub splits : known.splits + roles (classes known) (drawn known).network.nodes ≡ known.roles
   pub irregular : AllShown o (drawn known).network known.irregular.now
 
 known_under : {V : Type 0} (o : Operations V) (laws : Laws o) (known : KnownNetwork) → Computed o known → KnownUnder o known
 known_under o laws known computed =
     let m = (drawn known).network in
-    let colours = (drawn known).colours in
     record {
       answered = computed.replied;
-      one_each = rw (sym computed.table) (coarsest_length o m colours);
-      coarsest = rw (sym computed.table) (coarsest_level o laws m colours);
-      heads = rw (sym computed.table) (named_lowest o laws m colours);
+      one_each = rw (sym computed.table) (coarsest_length o m (classes known));
+      coarsest = rw (sym computed.table) (coarsest_level o laws m (classes known));
+      heads = rw (sym computed.table) (named_head o laws m (classes known));
       count = computed.count;
       splits = computed.splits;
       irregular = each_shown o m known.irregular.now computed.irregular;

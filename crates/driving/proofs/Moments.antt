@@ -3,8 +3,9 @@ use Rattle.std.proofs.Common.{rules, ◌≡◌, ℕ, zero, suc, ◌+◌, ◌<◌
 use Rattle.std.proofs.lemmas.Bool.{cases_lt}
 use Rattle.std.proofs.lemmas.Option.{slice_get_within}
 use Rattle.network.specs.Meaning.{Meaning}
-use Rattle.measure.specs.Measures.{Operations}
-use Rattle.session.specs.States.{KeepsRoles, role_count}
+use Rattle.measure.specs.Measures.{Operations, Laws}
+use Rattle.equivalence.specs.Heads.{head_of}
+use Rattle.session.specs.States.{KeepsHeads, role}
 use Rattle.driving.specs.Book.{Book, book_in}
 use Rattle.driving.specs.Courses.{Course, course_after, course_before}
 use Rattle.driving.specs.Laws.{Still, Rests, Finds}
@@ -62,9 +63,11 @@ module _ {V : Type 0} (o : Operations V) (m : Meaning) (given done : List Exchan
       turning.rests_best o (run.state i) (run.state (i + 1)) f.area.now c.reply c.area.now (course i).settled f.call (turn_at i f c at at_done) (rests i c a b at_done) was)
 
   -- and so do heads
-  pub rests_heads : (i k : ℕ) → k ≤ length given → Rests given done i k → KeepsRoles (run.state i) (run.state k)
-  rests_heads i k within (l, rests) r known =
-      along (λ j. (r < role_count (run.state j)) × ((run.state j).head r ≡ (run.state i).head r)) i (known, refl) k l within
+  pub rests_heads : Laws o → (i k : ℕ) → k ≤ length given → Rests given done i k → KeepsHeads (run.state i) (run.state k)
+  rests_heads laws i k within (l, rests) x node head =
+      (along (λ j. (x < (run.state j).network.nodes) × (head_of (role (run.state j)) x ≡ x)) i (node, head) k l within
       (λ j e d a b here there was.
-      let (more, same) = turning.rests_heads o (run.state j) (run.state (j + 1)) e.area.now d.reply d.area.now (course j).settled e.call (turn_at j e d here there) (rests j d a b there) r was.0 in
-      (more, same ∙ was.1))
+      let turn = turn_at j e d here there in
+      let rest = rests j d a b there in
+      (omega (arith, turning.same_nodes o (run.state j) (run.state (j + 1)) e.area.now d.reply d.area.now (course j).settled e.call turn, was.0),
+      turning.rests_heads o (run.state j) (run.state (j + 1)) e.area.now d.reply d.area.now laws (course j).settled e.call turn rest x was.0 was.1))).1

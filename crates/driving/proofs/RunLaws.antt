@@ -84,7 +84,7 @@ module _ {V : Type 0} (o : Operations V) (laws : Laws o) (m : Meaning) (given do
             let turn = subst (λ b. Turn o b (Call.Edit edit) (then k) (then (k + 1)) e.area.now d.reply d.area.now) taken (turn_of k e d (Call.Edit edit) here there is) in
             edit_told edit (then k) (then (k + 1)) d.reply turn.0 ∙ ap (λ b. edit_reply b edit) (run.book k l);
         tells = told_by;
-        heads = rests_heads o m given done run;
+        heads = rests_heads o m given done run laws;
         looks = look_rows;
         asks = ask_rows;
         answers = λ i k e d q start x r still here there asks replied of_node.

@@ -1,12 +1,14 @@
 -- What a call makes of a session, by its turn.
-use Rattle.std.proofs.Common.{rules, ◌≡◌, ℕ, ◌<◌, Bool, true, false, List, Result, Ok, Err, refl, sym, ap, subst, inl, inr, ◌⊎◌, arith}
+use Rattle.std.proofs.Common.{rules, ◌≡◌, ℕ, ◌<◌, Bool, true, false, List, Result, Ok, Err, refl, sym, ap, subst, ◌∙◌, inl, inr, ◌⊎◌, arith}
 use Rattle.network.specs.Meaning.{Meaning}
-use Rattle.measure.specs.Measures.{Operations}
+use Rattle.network.specs.Put.{put_answer, with_tie}
+use Rattle.measure.specs.Measures.{Operations, Laws}
 use Rattle.equivalence.specs.Regular.{Table}
 use Rattle.equivalence.specs.Coarsest.{Coarsest}
-use Rattle.equivalence.proofs.Refinement.{coarsest_settled}
+use Rattle.equivalence.specs.Heads.{head_of}
+use Rattle.equivalence.proofs.Splitting.{split_parted}
 use Rattle.session.specs.Sessions.{Edited}
-use Rattle.session.specs.States.{IsSound, KeepsRoles, State, role, role_count}
+use Rattle.session.specs.States.{IsSound, KeepsHeads, State, classes, role}
 use Rattle.session.specs.Steps.{Stepped}
 use Rattle.session.specs.declared.step.Step as step
 use Rattle.session.specs.declared.step.Step.TheVariants.{Stable, Split}
@@ -27,6 +29,19 @@ use Rattle.driving.specs.declared.call.Reply.TheVariants as replies
 
 pub book_same : {m n : Meaning} {a b : Table} → m ≡ n → a ≡ b → ◌≡◌ {A = Book} (record { network = m; colours = a }) (record { network = n; colours = b })
 book_same e d = λ i. record { network = e i; colours = d i }
+
+-- no call adds a node or takes one
+put_nodes : (m : Meaning) (i j b : ℕ) (r : Result (Unit {0}) _) → (elim r as (λ _. Meaning) [ Ok _ ↦ with_tie m i j b | Err _ ↦ m ]).nodes ≡ m.nodes
+put_nodes m i j b (Ok _) = refl
+put_nodes m i j b (Err _) = refl
+
+course_nodes : (course : Course) (c : Call) → (course_after course c).book.network.nodes ≡ course.book.network.nodes
+course_nodes course (calls.Edit (Put i j b)) = grind (arith, put_nodes course.book.network i j b (put_answer course.book.network i j b))
+course_nodes course (calls.Edit (Colour i c)) = grind arith
+course_nodes course (calls.Move Step) = refl
+course_nodes course (calls.Move Settle) = refl
+course_nodes course (calls.Move Reopen) = refl
+course_nodes course other = refl
 
 -- an edit that is refused
 put_refused : (a : Result (Unit {0}) _) (m : Meaning) (colours : Table) (s t : State) → restarts (Reply.Put a) ≡ false → Edited a m colours s t → t ≡ s
@@ -53,7 +68,7 @@ quiet_rests other e = refl
 module _ {V : Type 0} (o : Operations V) where
   -- the table of a state is the coarsest of its ties and colours
   abbrev pub Best : State → Type 0
-  Best s = Coarsest o s.network s.colours (role s)
+  Best s = Coarsest o s.network (classes s) (role s)
 
   module _ (s t : State) where
     move_book : (c : Move) (r : Reply) → Moves o c s t r → book_in t ≡ book_in s
@@ -81,18 +96,18 @@ module _ {V : Type 0} (o : Operations V) where
     move_best Settle r did best = did.1.coarsest
     move_best Reopen r did best = same_best did.1 best
 
-    heads_same : t ≡ s → KeepsRoles s t
-    heads_same same r l = (omega (arith, l, ap role_count same), ap (λ x. x.head r) same)
+    heads_same : t ≡ s → KeepsHeads s t
+    heads_same same x l e = ap (λ u. head_of (role u) x) same ∙ e
 
-    move_heads : (c : Move) (r : Reply) → Moves o c s t r → KeepsRoles s t
-    move_heads Step (replies.Step Stable) did = heads_same did.1
-    move_heads Step (replies.Step (Split part toward fresh)) did = did.1.roles
-    move_heads Step other did = absurd did
-    move_heads Settle r did = did.1.roles
-    move_heads Reopen r did = heads_same did.1
+    move_heads : (c : Move) (r : Reply) → Laws o → Moves o c s t r → KeepsHeads s t
+    move_heads Step (replies.Step Stable) laws did = heads_same did.1
+    move_heads Step (replies.Step (Split part toward fresh)) laws did = (split_parted o laws s.network (role s) (role t) part toward fresh did.1.split).heads
+    move_heads Step other laws did = absurd did
+    move_heads Settle r laws did = did.1.heads
+    move_heads Reopen r laws did = heads_same did.1
 
     stable_best : (c : Move) → Moves o c s t (Reply.Step Stable) → IsSound o s → Best t
-    stable_best Step did sound = same_best did.1 (coarsest_settled o s.network s.colours (role s) sound.between (did.0.0 refl))
+    stable_best Step did sound = same_best did.1 (record { regular = did.0.0 refl; covers = sound.covers })
     stable_best other did sound = absurd (search rules)
 
   module _ (s t : State) (area : List ℕ) (r : Reply) (after : List ℕ) where
@@ -124,6 +139,9 @@ module _ {V : Type 0} (o : Operations V) where
     booked settled (calls.Write c) turn = ap book_in (write_same settled c turn)
     booked settled (calls.Tell c) turn = ap book_in turn.2
 
+    pub same_nodes : (settled : Bool) (c : Call) → Turn o settled c s t area r after → t.network.nodes ≡ s.network.nodes
+    same_nodes settled c turn = ap (λ (b : Book). b.network.nodes) (booked settled c turn) ∙ course_nodes (record { settled = settled; book = book_in s }) c
+
     -- a quiet reply
     pub quiet : (settled : Bool) (c : Call) → Turn o settled c s t area r after → is_quiet r ≡ true → t ≡ s
     quiet true c turn e = settled_same c turn
@@ -145,14 +163,14 @@ module _ {V : Type 0} (o : Operations V) where
     rests_best false (calls.Tell c) turn e best = same_best s t turn.2 best
 
     -- and so do heads
-    pub rests_heads : (settled : Bool) (c : Call) → Turn o settled c s t area r after → restarts r ≡ false → KeepsRoles s t
-    rests_heads true c turn e = heads_same s t (settled_same c turn)
-    rests_heads false (calls.Edit c) turn e = heads_same s t (edit_refused c s t r turn.0 e)
-    rests_heads false (calls.Move Step) turn e = move_heads s t Step r turn.0
-    rests_heads false (calls.Move Settle) turn e = move_heads s t Settle r turn.0
-    rests_heads false (calls.Move Reopen) turn e = heads_same s t turn.2
-    rests_heads false (calls.Write c) turn e = heads_same s t (write_same false c turn)
-    rests_heads false (calls.Tell c) turn e = heads_same s t turn.2
+    pub rests_heads : Laws o → (settled : Bool) (c : Call) → Turn o settled c s t area r after → restarts r ≡ false → KeepsHeads s t
+    rests_heads laws true c turn e = heads_same s t (settled_same c turn)
+    rests_heads laws false (calls.Edit c) turn e = heads_same s t (edit_refused c s t r turn.0 e)
+    rests_heads laws false (calls.Move Step) turn e = move_heads s t Step r laws turn.0
+    rests_heads laws false (calls.Move Settle) turn e = move_heads s t Settle r laws turn.0
+    rests_heads laws false (calls.Move Reopen) turn e = heads_same s t turn.2
+    rests_heads laws false (calls.Write c) turn e = heads_same s t (write_same false c turn)
+    rests_heads laws false (calls.Tell c) turn e = heads_same s t turn.2
 
     -- a settled session has the coarsest table
     pub settled_best : (settled : Bool) (c : Call) → Turn o settled c s t area r after → (settled ≡ true → Best s) → (course_after (record { settled = settled; book = book_in s }) c).settled ≡ true → Best t

@@ -4,6 +4,7 @@
 --   replies      what each edit replies, in the book that those before it leave
 --   edited       the book that the edits leave
 --   drawn        the book of the network
+--   classes      its starting classes
 --   Shows        three nodes show that a table is not regular, and no other three do, so they are the vet's answer
 --   KnownUnder   each edit replies so, and then the table is the coarsest, with so many roles after so many splits
 --   KnownBy      the same, by the name of the measure
@@ -18,10 +19,11 @@ use Rattle.measure.specs.Measures.{Operations}
 use Rattle.measure.specs.Kinds.{kinds}
 use Rattle.measure.specs.Bundles.{bundles}
 use Rattle.measure.specs.Tally.{tally}
-use Rattle.equivalence.specs.Regular.{Unequal}
+use Rattle.equivalence.specs.Regular.{Table, Unequal}
 use Rattle.equivalence.specs.Vetted.{table_of, Vetted}
-use Rattle.equivalence.specs.Coarsest.{Coarsest, roles}
-use Rattle.equivalence.specs.Regular.{Heads}
+use Rattle.equivalence.specs.Coarsest.{Coarsest}
+use Rattle.equivalence.specs.Heads.{head_of, roles}
+use Rattle.equivalence.specs.Starting.{starting_classes}
 use Rattle.equivalence.specs.declared.faults.Fault.{Fault}
 use Rattle.driving.specs.Book.{Book, book_after, opened}
 use Rattle.driving.specs.Turns.{edit_reply}
@@ -50,6 +52,9 @@ edited book (edit ∷ edits) = edited (book_after book edit.0) edits
 abbrev pub drawn : KnownNetwork → Book
 drawn known = edited (opened (started known.start)) known.edits.now
 
+abbrev pub classes : KnownNetwork → Table
+classes known = starting_classes (drawn known).network (drawn known).colours
+
 pub record Shows {V : Type 0} (o : Operations V) (m : Meaning) (irregular : Irregular) : Type 0 where
   pub one_each : length irregular.table.now ≡ m.nodes
   pub shown : Unequal o m (table_of irregular.table.now) irregular.witness.0 irregular.witness.1 irregular.witness.2
@@ -60,12 +65,12 @@ pub record Shows {V : Type 0} (o : Operations V) (m : Meaning) (irregular : Irre
 pub record KnownUnder {V : Type 0} (o : Operations V) (known : KnownNetwork) : Type 0 where
   pub answered : replies (opened (started known.start)) known.edits.now ≡ map (λ edit. edit.1) known.edits.now
   pub one_each : length known.table.now ≡ (drawn known).network.nodes
-  pub coarsest : Coarsest o (drawn known).network (drawn known).colours (table_of known.table.now)
+  pub coarsest : Coarsest o (drawn known).network (classes known) (table_of known.table.now)
   -- each role is called by its head
-  pub heads : (x : ℕ) → x < (drawn known).network.nodes → Heads (table_of known.table.now) (table_of known.table.now x) x
+  pub heads : (x : ℕ) → x < (drawn known).network.nodes → head_of (table_of known.table.now) x ≡ table_of known.table.now x
   pub count : roles (table_of known.table.now) (drawn known).network.nodes ≡ known.roles
   -- a split makes one role more, from the starting classes on
-  pub splits : known.splits + roles (drawn known).colours (drawn known).network.nodes ≡ known.roles
+  pub splits : known.splits + roles (classes known) (drawn known).network.nodes ≡ known.roles
   pub irregular : All (Shows o (drawn known).network) known.irregular.now
 
 abbrev pub KnownBy : Weighing → KnownNetwork → Type 0

@@ -15,10 +15,8 @@ use Rattle.measure.specs.Measures.{Operations}
 use Rattle.question.specs.Areas.{NodesAnswered}
 use Rattle.question.specs.Truth.{answer, each_node}
 use Rattle.question.specs.declared.line.Line.{Line}
-use Rattle.session.specs.States.{State, KeepsRoles, role, role_count}
-use Rattle.session.specs.declared.role.Role as role_record
+use Rattle.session.specs.States.{KeepsHeads, role, role_count}
 use Rattle.session.specs.declared.step.Step.TheVariants.{Stable, Split}
-use Rattle.driving.specs.Book.{Book}
 use Rattle.driving.specs.Courses.{course_before}
 use Rattle.driving.specs.Promise.{At, Promise, RunTo}
 use Rattle.driving.specs.Turns.{edit_reply, told}
@@ -67,7 +65,7 @@ module _ {V : Type 0} (o : Operations V) where
     -- what is told until the table is altered is told of one table
     pub tells : (i : ℕ) (tell : Tell) (r : Reply) → i ≤ length given → Told given done i (Call.Tell tell) r → r ≡ told (run.state i) tell
     -- each head stays a head until a put or a colour is accepted
-    pub heads : (i k : ℕ) → k ≤ length given → Rests given done i k → KeepsRoles (run.state i) (run.state k)
+    pub heads : (i k : ℕ) → k ≤ length given → Rests given done i k → KeepsHeads (run.state i) (run.state k)
     -- each row that a look leaves has for each node what its line is true of on the network of the book
     pub looks : (k : ℕ) (e d : Exchange) (q : Bor (List Line)) (start : ℕ)
         → At given k e → At done k d → e.call ≡ Call.Write (Write.Look q) → d.reply ≡ Reply.Look (Ok start)

@@ -15,7 +15,7 @@ use Rattle.measure.specs.Measures.{Operations}
 use Rattle.equivalence.specs.Regular.{Regular}
 use Rattle.equivalence.specs.Coarsest.{Coarsest}
 use Rattle.question.specs.declared.line.Line.{Line}
-use Rattle.session.specs.States.{State, IsSound, role}
+use Rattle.session.specs.States.{State, IsSound, classes, role}
 use Rattle.session.specs.Questions.{look_answer, ask_answer, after_look, after_ask, AnswersNodes, AnswersRoles}
 use Rattle.session.specs.Sessions.{Begun, Ended}
 use Rattle.driving.specs.Book.{Book, book_in}
@@ -27,8 +27,8 @@ pub record Promise {V : Type 0} (o : Operations V) (book : Book) (s : State) : T
   -- ties and colours are the book's
   pub ties : s.network ≡ book.network
   pub colours : s.colours ≡ book.colours
-  -- the table is regular and within the starting classes, and every other such table lies inside it
-  pub coarsest : Coarsest o s.network s.colours (role s)
+  -- the table is regular and within the starting classes, and every other such table refines it
+  pub coarsest : Coarsest o s.network (classes s) (role s)
   -- a question that is admitted has for a node's role, where ask leaves it, what it has for the node, where look leaves it
   pub answers :
       (lines : List Line) (asked looked : List ℕ) (i j x : ℕ)

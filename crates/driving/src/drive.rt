@@ -1,6 +1,7 @@
 // A session that is driven by a list of calls, and what is promised of it.
 ghost use Rattle.std.specs.Prelude.{◌≡◌};
-ghost use Rattle.equivalence.specs.Levels.{LevelsCoarsest};
+ghost use Rattle.equivalence.specs.Coarsest.{FewestLaw};
+ghost use Rattle.equivalence.specs.Levels.{CoarsestNamed, LevelsCoarsest};
 ghost use Rattle.session.specs.SettledSessions.{settled_parts, settled_state};
 ghost use Rattle.driving.specs.Courses.{last_book};
 ghost use Rattle.driving.specs.Laws.{RunLaws};
@@ -26,9 +27,13 @@ pub fn drive<N: Editable, M: Measure>(
         Driven M.Measure.ops m exchanges.old exchanges.new (settled_state result) }
     ensures measure { (settled_parts result).1 ≡ measure }
 
-    // Of every run, and so of this one; of every network and all starting classes.
+    // Of every run, and so of this one.
     ensures laws { RunLaws M.Measure.ops }
+
+    // Of every network and all starting classes.
+    ensures fewest { FewestLaw M.Measure.ops }
     ensures levels { LevelsCoarsest M.Measure.ops }
+    ensures named { CoarsestNamed M.Measure.ops }
 {
     let mut session = Session::Open(Open::new(network, measure));
     for exchange in exchanges.iter_mut() {

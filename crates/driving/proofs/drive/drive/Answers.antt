@@ -1,8 +1,8 @@
 use Rattle.std.proofs.Common.{◌≡◌, ◌∙◌, ℕ, ◌<◌, false, length, get_or, subst, sym, ap, refl, inl, inr, get_or-set_other, arith}
 use Rattle.std.proofs.lemmas.Bool.{cases_Bool}
 use Rattle.std.proofs.lemmas.List.{length-map, take_all}
-use Rattle.equivalence.proofs.Levels.{coarsest_level}
-use Rattle.equivalence.proofs.Refinement.{coarsest_settled}
+use Rattle.equivalence.proofs.Levels.{coarsest_named, levels_coarsest}
+use Rattle.equivalence.proofs.Refinement.{fewest}
 use Rattle.session.specs.SettledSessions.{settled_state}
 use Rattle.session.specs.States.{role}
 use Rattle.driving.specs.Book.{Book, book_in}
@@ -94,7 +94,7 @@ best : (g : Over) (c : goal.After-settle g) → Best g.M.Measure.ops (settled_st
 best g c =
     let s = c.settle.result in
     let state = settled_state s in
-    coarsest_settled g.M.Measure.ops state.network state.colours (role state) s.session.sound.between s.regular
+    record { regular = s.regular; covers = s.session.sound.covers }
 
 pub returns-clause-promise : goal.returns-clause-promise
 returns-clause-promise g c = promised g.M.Measure.ops g.met.M.Measure.lawful (settled_state c.settle.result) c.settle.result.session.sound (best g c) _ (last g c)
@@ -103,7 +103,13 @@ pub returns-clause-measure : goal.returns-clause-measure
 returns-clause-measure g c = ap (λ p. p.1) c.settle.ensures.parts ∙ c.loop-exchange.invariant.0
 
 pub returns-clause-levels : goal.returns-clause-levels
-returns-clause-levels g c = coarsest_level g.M.Measure.ops g.met.M.Measure.lawful
+returns-clause-levels g c = levels_coarsest g.M.Measure.ops g.met.M.Measure.lawful
+
+pub returns-clause-named : goal.returns-clause-named
+returns-clause-named g c = coarsest_named g.M.Measure.ops g.met.M.Measure.lawful
+
+pub returns-clause-fewest : goal.returns-clause-fewest
+returns-clause-fewest g c = fewest g.M.Measure.ops g.met.M.Measure.lawful
 
 pub returns-clause-laws : goal.returns-clause-laws
 returns-clause-laws g c = run_laws g.M.Measure.ops g.met.M.Measure.lawful
