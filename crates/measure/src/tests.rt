@@ -6,7 +6,7 @@ use super::tally::Tally;
 use std::process::Abort;
 use std::test::Fail;
 
-// The tests that hold of the value, as bits from test 0 up, 64 to a number, since the expected values are bits.
+// The tests that hold of the value, as bits from test 0 up, 64 to a number.
 fn held<M: Measure>(measure: &M, value: M::Value) -> [u64; 4] {
     (0..=255u8)
         .filter(|&t| measure.holds(value, t))
@@ -16,7 +16,7 @@ fn held<M: Measure>(measure: &M, value: M::Value) -> [u64; 4] {
         })
 }
 
-// The laws of a measure at three values: commutative, associative, none neutral, two zero bytes none.
+// The laws of a measure at three values.
 fn lawful<M: Measure>(rt: &impl Abort, m: &M, a: M::Value, b: M::Value, c: M::Value) {
     assert!(rt; m.same(m.join(a, b), m.join(b, a)));
     assert!(rt; m.same(m.join(m.join(a, b), c), m.join(a, m.join(b, c))));
