@@ -1,4 +1,4 @@
--- What `all` finds in the list 0..n, said of the numbers below n. Assumes nothing.
+-- What `all` finds in the list 0..n, said of the numbers below n.
 use Rattle.std.proofs.Common.{◌≡◌, ℕ, ◌<◌, Bool, true, false, length, get_or, Decides, MatchBool, refl, sym, subst, arith}
 use Rattle.std.specs.List.{HoldsAt, AllWithin, range_with_len}
 use Rattle.std.proofs.lemmas.List.FromFn.{length-range_with_len, get_or-range_with_len}

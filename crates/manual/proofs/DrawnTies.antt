@@ -1,4 +1,4 @@
--- A drawing that is not refused ties the pairs of its list, and no other. Assumes nothing.
+-- A drawing that is not refused ties the pairs of its list, and no other.
 use Rattle.std.proofs.Common.{◌≡◌, ℕ, Bool, true, false, cond, ◌&&◌, ◌||◌, eqb, List, [], ◌∷◌, Ok, Err, Result, sym, refl, ap, ◌∙◌}
 use Rattle.network.specs.Meaning.{Meaning}
 use Rattle.network.specs.Put.{put_answer, put_after}

@@ -1,4 +1,4 @@
--- What a question of who holds a test toward the nodes that do not hold another is true of, under each measure. Assumes nothing.
+-- What a question of who holds a test toward the nodes that do not hold another is true of, under each measure.
 use Rattle.std.proofs.Common.{◌≡◌, ℕ, ◌-◌, ◌<◌, Bool, true, false, not, ◌&&◌, eqb, ltb, List, [], ◌∷◌, ◌++◌, length, map, Option, Some, None, Decides, refl, ap, ◌∙◌, inl, inr, arith}
 use mathlib.Core.Path.{fun_ext}
 use Rattle.std.specs.List.{fold}

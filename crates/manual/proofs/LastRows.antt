@@ -1,4 +1,4 @@
--- Whom the last rows name, after ask and after look. Assumes nothing.
+-- Whom the last rows name, after ask and after look.
 use Rattle.std.proofs.Common.{◌≡◌, ℕ, ◌+◌, ◌-◌, ◌*◌, ◌<◌, ◌≤◌, Bool, true, false, cond, eqb, List, length, take, drop, filter, slice_index, Ok, MatchResult, refl, sym, ap, ◌∙◌, arith}
 use Rattle.std.specs.List.{range_with_len}
 use Rattle.std.proofs.lemmas.List.{get_or-take, get_or-drop, length-take-le, length-drop}

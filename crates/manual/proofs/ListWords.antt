@@ -1,4 +1,4 @@
--- A list in words, from its first number, those between, and its last. Assumes nothing.
+-- A list in words, from its first number, those between, and its last.
 use Rattle.std.proofs.Common.{◌≡◌, ℕ, suc, ◌-◌, ◌≤◌, List, [], ◌∷◌, ◌++◌, codes, decimal, length, get_or, take, drop, flat_map, refl, ap, ◌∙◌, ap₂, arith}
 use Rattle.std.proofs.lemmas.List.{take_all, append_assoc}
 use Rattle.manual.specs.Words.{more_words, those_words}

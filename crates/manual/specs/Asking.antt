@@ -1,4 +1,4 @@
--- What the page asks, and what a settled session answers. Assumes nothing.
+-- What the page asks, and what a settled session answers.
 --
 --   Means            where every colour is 0, the question is true of the nodes that are sought, and of no other
 --   toward_claims    the claims of a question: who holds test t toward the nodes that do not hold test s

@@ -1,4 +1,4 @@
--- A network as a page draws it. Assumes nothing.
+-- A network as a page draws it.
 --
 --   drawn_from       the network after a put of byte 1 for each pair, in order, or the first refusal
 --   drawn_on         the same where the check passes, or its refusal

@@ -1,4 +1,4 @@
--- The vet's answer in a verdict. Assumes nothing.
+-- The vet's answer in a verdict.
 use Rattle.std.specs.Prelude.{ℕ, Option, Ok, Err, Result}
 use Rattle.equivalence.specs.declared.faults.Fault.{Fault}
 use Rattle.manual.specs.declared.words.Verdict.{Verdict}

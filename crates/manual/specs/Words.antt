@@ -1,4 +1,4 @@
--- What the page says of a table, of a put, of a role and of a question. Assumes nothing.
+-- What the page says of a table, of a put, of a role and of a question.
 use Rattle.std.specs.Prelude.{ℕ, List, [], ◌∷◌, ◌++◌, Some, None, Ok, Err, codes, decimal, Option, Result, ◌==◌, if◌then◌else◌}
 use Rattle.network.specs.Faults.{number}
 use Rattle.network.specs.declared.faults.Fault.{Fault}

@@ -9,10 +9,12 @@ use network::interface::Editable;
 use network::matrix::Matrix;
 use network::two_mode::TwoMode;
 
-// Puts byte 1 for each pair, in order, up to the first refusal. On a network without ties, these pairs are then tied and no other.
+// Puts byte 1 for each pair, in order, up to the first refusal. On a network without ties, these
+// pairs are then tied and no other.
 #[tactic(auto, using(crate::proofs::DrawnTies::drawn_law))]
 fn tied<N: Editable + Drop>(mut network: N, ties: &[(usize, usize)]) -> Result<N, Fault>
-    ensures built { MatchResult result (λ m. drawn_from (N.Readable.meaning network) ties.now ≡ Ok (N.Readable.meaning m)) (λ f. drawn_from (N.Readable.meaning network) ties.now ≡ Err f) }
+    ensures built { let drawn = drawn_from (N.Readable.meaning network) ties.now in
+        MatchResult result (λ m. drawn ≡ Ok (N.Readable.meaning m)) (λ f. drawn ≡ Err f) }
     ensures law { Drawn }
 {
     for &(i, j) in ties {
@@ -29,7 +31,7 @@ pub(crate) fn drawn(n: usize, memory: Vec<u8>, ties: &[(usize, usize)]) -> Resul
     tied(Matrix::new(n, memory), ties)
 }
 
-// The two-mode network of a and b nodes over the memory, likewise. Beside `drawn`, since a making takes a number of nodes or two sides.
+// The two-mode network of a and b nodes over the memory, likewise.
 pub(crate) fn drawn_sides(
     a: usize,
     b: usize,

@@ -15,7 +15,8 @@ pub(crate) fn judged<N: Readable, M: Classical>(
     table: &[u8],
 ) -> Result<Verdict, Fault>
     ensures vetted { Vetted M.Measure.ops (N.meaning network.now) table.now (answer_of result) }
-    ensures classical { YesExactly (N.meaning network.now) table.now (answer_of result) (M.notion (N.meaning network.now)) }
+    ensures classical { let m = N.meaning network.now in
+        YesExactly m table.now (answer_of result) (M.notion m) }
 {
     measure.vet(network, table).map(Verdict)
 }

@@ -74,8 +74,7 @@ impl<N: Readable> fmt::Display for Ties<'_, N> {
     fn fmt<W: fmt::Write>(&self, f: &mut fmt::Formatter<W>) -> fmt::Result {
         let network = self.0;
         let n = network.nodes();
-        // Both loops are `for`s: a chain would have to carry the separator and a failed write through its closures.
-        // Over a filtered range the inner one is not proved (tried).
+        // Two `for`s: a chain would carry the separator and a failed write through its closures.
         let mut separator = "";
         for i in 0..n {
             if isolated(network, i) {

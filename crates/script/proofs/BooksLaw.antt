@@ -1,4 +1,4 @@
--- What a script has named and told so far, by its records. Assumes nothing.
+-- What a script has named and told so far, by its records.
 --
 --   Turned     what a record makes of a script that has named nothing
 --   Measured   what it makes of one that has named a network

@@ -1,4 +1,4 @@
--- The first line of a script, and what stands behind it. Assumes nothing.
+-- The first line of a script, and what stands behind it.
 use Rattle.std.proofs.Common.{rules, ◌≡◌, ℕ, Bool, true, false, refl, ◌==◌, [], ◌∷◌, ◌+◌, ◌<◌, ◌≤◌, List, length, length-drop, ap, inl, inr, arith}
 use Rattle.std.specs.List.{after_first, before_first, position_or_len}
 use Rattle.std.proofs.lemmas.Bool.{cases_lt}

@@ -1,4 +1,4 @@
--- A question that is added to. Assumes nothing.
+-- A question that is added to.
 use Rattle.std.proofs.Common.{◌≡◌, ℕ, suc, ◌+◌, List, [], ◌∷◌, ◌++◌, length, Result, Ok, Err, refl, sym, subst, rules, arith}
 use Rattle.question.specs.Checks.{line_check, lines_check}
 use Rattle.question.specs.declared.line.Line.{Line}

@@ -1,4 +1,4 @@
--- Which lines of a transcript are refusals. Assumes nothing.
+-- Which lines of a transcript are refusals.
 --
 --   Told          the lines ER that are printed so far are those of the refusals so far
 use Rattle.std.proofs.Common.{◌≡◌, ℕ, Bool, true, false, cond, leb, List, [], ◌∷◌, ◌++◌, length, map, Result, Ok, Err, refl, sym, ap, subst, ◌∙◌}

@@ -1,4 +1,4 @@
--- A field is read exactly where it is written so. Assumes nothing.
+-- A field is read exactly where it is written so.
 --
 --   Plain     digits, at least one, and no leading zero
 --   Closed    the end, or a space

@@ -1,4 +1,4 @@
--- Whatever a script prints is lines of the forms. Assumes nothing.
+-- Whatever a script prints is lines of the forms.
 --
 --   Plain      a byte is no line feed
 --   Inline     nor is any of the bytes

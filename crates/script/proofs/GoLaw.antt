@@ -1,4 +1,4 @@
--- What each GO of a script prints. Assumes nothing.
+-- What each GO of a script prints.
 use Rattle.std.proofs.Common.{◌≡◌, ℕ, List, [], fold, Ok, subst, rules}
 use Rattle.script.specs.BooksLaw.{Story, asked}
 use Rattle.script.specs.GoLaw.{Answered, GoLaw}

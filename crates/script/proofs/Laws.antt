@@ -1,4 +1,4 @@
--- The laws of all scripts. Assumes nothing.
+-- The laws of all scripts.
 use Rattle.script.specs.Laws.{ScriptLaws}
 use Rattle.script.proofs.BooksLaw.{books_law}
 use Rattle.script.proofs.ErrorsLaw.{errors_law}

@@ -1,4 +1,4 @@
--- What GO prints is the coarsest table of the book. Assumes nothing.
+-- What GO prints is the coarsest table of the book.
 use Rattle.std.proofs.Common.{◌≡◌, ◌+◌, List, length, refl, ap, arith}
 use Rattle.measure.specs.Measures.{Laws, Operations}
 use Rattle.measure.specs.BundleLaws.{bundles_laws}

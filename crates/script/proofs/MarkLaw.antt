@@ -1,4 +1,4 @@
--- Which records have a known mark. Assumes nothing.
+-- Which records have a known mark.
 --
 --   bytes_of    the two bytes of a mark
 --   Begins      a record begins with one of these marks

@@ -1,4 +1,4 @@
--- Digits, and the number that they write. Assumes nothing.
+-- Digits, and the number that they write.
 use Rattle.std.proofs.Common.{◌≡◌, ℕ, true, List, length, inl, inr, arith}
 use Rattle.std.proofs.lemmas.Bool.{cases_lt}
 use Rattle.std.proofs.lemmas.List.{get_or_past}

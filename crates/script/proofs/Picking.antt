@@ -1,4 +1,4 @@
--- The lines of a test among those that are printed. Assumes nothing.
+-- The lines of a test among those that are printed.
 --
 --   Plain         no byte is a line feed
 --   EachPlain     so is each of these

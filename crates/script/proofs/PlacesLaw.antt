@@ -1,4 +1,4 @@
--- Where the record that is refused stands. Assumes nothing.
+-- Where the record that is refused stands.
 --
 --   Stands    behind these records the script goes on with this one
 --   From      the refusal is of one of these records, in a script as far as it is played

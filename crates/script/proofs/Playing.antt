@@ -1,4 +1,4 @@
--- A record that is played. Assumes nothing.
+-- A record that is played.
 use Rattle.std.proofs.Common.{◌≡◌, ℕ, ◌+◌, List, [], ◌∷◌, ◌++◌, length, Ok, Err, append-nil, sym, ap, ◌∙◌, rules}
 use Rattle.script.specs.Faults.{number}
 use Rattle.script.specs.Stages.{Outcome, Phase, answer_in, next_phase, printed_in}

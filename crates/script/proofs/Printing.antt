@@ -1,4 +1,4 @@
--- What is printed node by node. Assumes nothing.
+-- What is printed node by node.
 use Rattle.std.proofs.Common.{◌≡◌, ℕ, suc, zero, Bool, true, false, cond, List, [], ◌∷◌, ◌++◌, length, ◌+◌, add-one, append_assoc, append-nil, sym, ap, ◌∙◌, refl, arith}
 use Rattle.measure.specs.Measures.{Operations}
 use Rattle.question.specs.declared.line.Line.{Line}

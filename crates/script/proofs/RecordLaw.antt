@@ -1,4 +1,4 @@
--- A record says exactly what it is written as. Assumes nothing.
+-- A record says exactly what it is written as.
 --
 --   byte_of    a byte, of what a field is told
 --   go_on      what comes of what the first field is told

@@ -1,4 +1,4 @@
--- What a refusal leaves, and what is refused for its stage or its form. Assumes nothing.
+-- What a refusal leaves, and what is refused for its stage or its form.
 --
 --   Beneath          a refusal of a layer below
 --   Formal           a refusal of the mark or the fields

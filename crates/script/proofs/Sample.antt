@@ -1,4 +1,4 @@
--- The sample prints its lines, by computing what it prints. Assumes nothing.
+-- The sample prints its lines, by computing what it prints.
 use Rattle.std.proofs.Common.{refl}
 use Rattle.std.specs.Fmt.{digits}
 use Rattle.script.specs.Listings.{go_lines, settled_lines, true_lines}

@@ -1,4 +1,4 @@
--- A script that is cut between two records. Assumes nothing.
+-- A script that is cut between two records.
 use Rattle.std.proofs.Common.{◌≡◌, ℕ, ◌+◌, ◌≤◌, true, leb, List, [], ◌∷◌, ◌++◌, length, ap, ◌∙◌, arith}
 use Rattle.std.specs.List.{fold, sum_by}
 use Rattle.std.proofs.lemmas.Bool.Decides.{nat_tests}

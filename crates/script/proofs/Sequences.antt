@@ -1,4 +1,4 @@
--- Scripts in sequence. Assumes nothing.
+-- Scripts in sequence.
 --
 --   after_outcome    a script after a record of this outcome
 --   ahead            the same with this printed and refused before it

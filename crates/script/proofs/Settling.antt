@@ -1,4 +1,4 @@
--- What a settled session tells is of the coarsest table of its book. Assumes nothing.
+-- What a settled session tells is of the coarsest table of its book.
 use Rattle.std.proofs.Common.{◌≡◌, ℕ, ◌<◌, arith}
 use Rattle.equivalence.specs.Levels.{coarsest_table}
 use Rattle.equivalence.specs.Regular.{Regular}

@@ -1,4 +1,4 @@
--- What a script has named and told so far, by its records. Assumes nothing.
+-- What a script has named and told so far, by its records.
 --
 --   Names        the record names this network without ties: a matrix of 1 to 128 nodes, a node on each side and at most 128 in all, or a list of 1 to 128 nodes and 1 to 1,024 slots
 --   Chooses      the record chooses this measure

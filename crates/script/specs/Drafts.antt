@@ -1,4 +1,4 @@
--- A question that is added to, line by line. Assumes nothing.
+-- A question that is added to, line by line.
 --
 --   add_answer     accepted, or the first no of: fewer than 32 lines before it (6), a known code (7), only earlier lines (8)
 --   lines_after    the lines after one was added, refused or not

@@ -1,4 +1,4 @@
--- Which lines of a transcript are refusals. Assumes nothing.
+-- Which lines of a transcript are refusals.
 --
 --   is_error      a line begins with ER
 --   error_text    the line of a refusal, without its line feed

@@ -1,4 +1,4 @@
--- The number, the layer and the words of each refusal of a script. Assumes nothing.
+-- The number, the origin and the words of each refusal of a script.
 --
 --   number        12 to 15, or the number of the fault below
 --   layer         the script, or the layer of the fault below

@@ -1,4 +1,4 @@
--- What a field is. Assumes nothing.
+-- What a field is.
 --
 --   Reads       the bytes are a space, then n as it is written in decimal, then the end or a space: at the rest
 --   FieldLaw    a field says n, with the rest behind it, exactly where it reads so

@@ -1,4 +1,4 @@
--- The fields of a record. Assumes nothing.
+-- The fields of a record.
 --
 --   plain          digits and nothing else, at least one, without a leading zero
 --   number         the number that digits write in base ten, at most 65,535

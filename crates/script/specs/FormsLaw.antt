@@ -1,4 +1,4 @@
--- The forms of the lines that a script prints. Assumes nothing.
+-- The forms of the lines that a script prints.
 --
 --   Printed     what a line tells: a refusal, how many roles and splits, a node and the head of its role, a node that the question is true of, or a remark
 --   shown       the line that tells it

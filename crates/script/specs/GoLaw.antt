@@ -1,4 +1,4 @@
--- What each GO of a script prints. Assumes nothing.
+-- What each GO of a script prints.
 --
 --   Answered    of the network that was named and the measure that was chosen, and of the book fed the edits since: its coarsest table, and the nodes that the question since is true of
 --   GoLaw       so it is at each GO that is accepted

@@ -1,4 +1,4 @@
--- The laws of all scripts. Assumes nothing.
+-- The laws of all scripts.
 --
 --   ScriptLaws    each of them
 use Rattle.script.specs.BooksLaw.{BooksLaw}

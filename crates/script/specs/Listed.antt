@@ -1,4 +1,4 @@
--- What GO prints is the coarsest table of the book. Assumes nothing.
+-- What GO prints is the coarsest table of the book.
 --
 --   Listed       this is printed of a table, and the table is the coarsest within the colours of the book
 --   ListedBy     the same under the measure that is chosen

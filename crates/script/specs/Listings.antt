@@ -1,4 +1,4 @@
--- What GO prints of a book. Assumes nothing.
+-- What GO prints of a book.
 --
 --   heads           the head of each node's role, in the coarsest table of the book
 --   role_total      how many roles that table has

@@ -1,4 +1,4 @@
--- Which records have a known mark. Assumes nothing.
+-- Which records have a known mark.
 --
 --   marks      the fourteen marks
 --   Marked     the record begins with one of them

@@ -1,4 +1,4 @@
--- Networks that a script names. Assumes nothing.
+-- Networks that a script names.
 --
 --   meant             what a network means whose kind the script chose
 --   meant_in          the same, where it is made

@@ -1,4 +1,4 @@
--- Where the record that is refused stands. Assumes nothing.
+-- Where the record that is refused stands.
 --
 --   record_at    the record of this number, from 1
 --   Placed       the refusal names the number of a record and the place in the script where that record begins

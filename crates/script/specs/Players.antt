@@ -1,4 +1,4 @@
--- A player of the program, as a script that is played so far. Assumes nothing.
+-- A player of the program, as a script that is played so far.
 --
 --   played_in    with what is printed
 use Rattle.std.specs.Prelude.{ℕ, List}

@@ -1,4 +1,4 @@
--- How a record is written. Assumes nothing.
+-- How a record is written.
 --
 --   spaced           numbers in decimal, each behind a space
 --   line_of          the line that makes a claim; what its code has not is 0

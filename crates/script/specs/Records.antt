@@ -1,4 +1,4 @@
--- What a record says. Assumes nothing.
+-- What a record says.
 --
 --   Said         what a record says: its numbers, or the bytes of a remark
 --   said_in      what a record of the program says

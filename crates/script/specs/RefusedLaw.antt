@@ -1,4 +1,4 @@
--- What a refusal leaves, and what is refused for its stage or its form. Assumes nothing.
+-- What a refusal leaves, and what is refused for its stage or its form.
 --
 --   Refused       the record prints its one line, and leaves all that was named, put, coloured and asked as it was
 --   Accepted      the record is not told as refused, and the phase and what is printed are as its outcome says

@@ -1,4 +1,4 @@
--- Which lines of a transcript are remarks. Assumes nothing.
+-- Which lines of a transcript are remarks.
 --
 --   is_remark     a line begins with RM
 --   RemarksLaw    the lines RM that a script prints are its own, each whole, once and in their order

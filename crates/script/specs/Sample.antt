@@ -1,4 +1,4 @@
--- A sample script, and what it prints. Assumes nothing.
+-- A sample script, and what it prints.
 --
 --   sample            three nodes in a row, a tie that is refused, and a question
 --   sample_printed    its lines

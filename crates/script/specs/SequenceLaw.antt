@@ -1,4 +1,4 @@
--- A script that is cut between two records. Assumes nothing.
+-- A script that is cut between two records.
 --
 --   afresh         what is played so far, as if it had printed and refused nothing
 --   Sequel         a and its line feed, and then b, are two scripts in sequence: the numbers and the offsets go on

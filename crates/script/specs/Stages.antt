@@ -1,4 +1,4 @@
--- What a record does at a stage. Assumes nothing.
+-- What a record does at a stage.
 --
 --   Phase         a stage with what the script has named and told so far: nothing, a network, or a network and a measure with the book and the question
 --   work_phase    the phase of work that is under way

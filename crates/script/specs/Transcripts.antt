@@ -1,4 +1,4 @@
--- What a script prints, and which of its records are refused. Assumes nothing.
+-- What a script prints, and which of its records are refused.
 --
 --   newline              a byte is a line feed
 --   without_empty_last   parts, but for an empty last one

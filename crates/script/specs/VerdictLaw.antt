@@ -1,4 +1,4 @@
--- Which records are accepted, and why the others are refused. Assumes nothing.
+-- Which records are accepted, and why the others are refused.
 --
 --   held          the answer of a part below, with its fault held whole
 --   sized         before the work: a network by its number of nodes, and a list by its slots too, and every other record is accepted

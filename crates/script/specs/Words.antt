@@ -1,4 +1,4 @@
--- The lines that are printed. Assumes nothing.
+-- The lines that are printed.
 --
 --   refusal_line    ER: the number of the record, and of the refusal
 --   settled_line    GO: how many roles there are, and how many splits

@@ -1,4 +1,4 @@
--- The work on a network, under the measure that the script chose. Assumes nothing.
+-- The work on a network, under the measure that the script chose.
 --
 --   Chosen        the measure that is chosen
 --   measure_of    the measure of the work
