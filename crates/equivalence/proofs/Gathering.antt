@@ -1,6 +1,8 @@
 -- What a total is made of.
 use Rattle.std.proofs.Common.{◌≡◌, ℕ, zero, suc, ◌+◌, ◌<◌, Bool, true, false, cond, List, ◌∷◌, map, filter, sym, refl, ap, ◌∙◌, ap₂, arith}
-use Rattle.std.specs.List.{fold, range_with_len}
+use Rattle.std.specs.List.{All, fold, range_with_len}
+use Rattle.std.proofs.lemmas.List.Elements.{All-filter}
+use Rattle.std.proofs.lemmas.List.FromFn.{length-range_with_len, get_or-range_with_len}
 use Rattle.network.specs.Meaning.{Meaning}
 use Rattle.measure.specs.Measures.{Operations, Laws}
 use Rattle.equivalence.specs.Totals.{gather, share, total}
@@ -38,3 +40,11 @@ module _ {V : Type 0} (o : Operations V) where
     -- the sum over the numbers below n that pass
     pub gather_filter : (n : ℕ) → fold o.join o.none (map f (filter p (range_with_len 0 n))) ≡ gather o chosen n
     gather_filter n = gather_from 0 n ∙ ap (gather o chosen) (omega arith)
+
+-- a list of nodes in order is of nodes
+pub filtered_below : (among : ℕ → Bool) (n : ℕ) → All (λ y. y < n) (filter among (range_with_len 0 n))
+filtered_below among n =
+    All-filter among (λ y. y < n) (range_with_len 0 n)
+    (λ k d l.
+    let under : k < n = omega (arith, length-range_with_len 0 n, l) in
+    omega (arith, get_or-range_with_len 0 n k d under, under))

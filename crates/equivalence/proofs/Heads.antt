@@ -1,10 +1,10 @@
 -- The heads of roles.
-use Rattle.std.proofs.Common.{◌≡◌, ℕ, ◌<◌, ◌≤◌, true, false, Option, Some, None, MatchOption, unwrap_or, sym, refl, ◌∙◌, ◌↔◌, arith}
+use Rattle.std.proofs.Common.{◌≡◌, ℕ, ◌<◌, ◌≤◌, Option, Some, None, MatchOption, unwrap_or, sym, refl, ◌↔◌, arith}
 use Rattle.std.specs.Prelude.{Decides, ◌≢◌}
 use Rattle.std.proofs.lemmas.Bool.{eq-eqb, eqb-true}
 use Rattle.std.proofs.lemmas.Bool.Decides.{nat_tests, Decides-eqb}
 use Rattle.equivalence.specs.Regular.{Table, members}
-use Rattle.equivalence.specs.Heads.{lowest, head_of, is_head}
+use Rattle.equivalence.specs.Heads.{head_of, is_head}
 use Rattle.equivalence.proofs.Lowest.{Equivalence, lowest_le, lowest_first, lowest_passes, lowest_is, name_same, name_together}
 
 module _ (role : Table) where

@@ -34,9 +34,6 @@ module _ {V : Type 0} (o : Operations V) (m : Meaning) where
   covers_same classes role fine coarse =
       record { within = fine; inside = λ other regular within x y hx hy e. coarse x y hx hy (within x y hx hy e) }
 
-  pub fewest : FewestLaw o
-  fewest m classes role other coarsest regular within = roles_le m.nodes other role (coarsest.covers.inside other regular within)
-
   pub regular_each : (role : Table) (count : ℕ) → ((x : ℕ) → x < m.nodes → role x < count) → ((c : ℕ) → c < count → Balanced o m role (members role c)) → Regular o m role
   regular_each role count ranged each z hz = each (role z) (ranged z hz)
 
@@ -56,3 +53,6 @@ module _ {V : Type 0} (o : Operations V) (m : Meaning) where
 
     pub covers_started : Covers o m (starting_classes m colours) role
     covers_started = covers_same (starting_classes m colours) role started_within started_above
+
+pub fewest : {V : Type 0} (o : Operations V) → FewestLaw o
+fewest o m classes role other coarsest regular within = roles_le m.nodes other role (coarsest.covers.inside other regular within)

@@ -1,17 +1,17 @@
 -- What a split makes of two tables.
-use Rattle.std.proofs.Common.{◌≡◌, ℕ, ◌+◌, ◌<◌, ◌≤◌, Bool, true, false, cond, not, ◌&&◌, eqb, sym, refl, ap, ap₂, ◌∙◌, inl, inr, arith, subst}
+use Rattle.std.proofs.Common.{◌≡◌, ℕ, ◌+◌, ◌<◌, Bool, true, false, cond, not, ◌&&◌, eqb, sym, refl, ap, ap₂, ◌∙◌, inl, inr, arith, subst}
 use Rattle.std.specs.Prelude.{◌≢◌, ◌↔◌}
-use Rattle.std.proofs.lemmas.Bool.{cases_Bool, and_parts, and_from, eq-eqb, eqb-true, both_ways}
+use Rattle.std.proofs.lemmas.Bool.{cases_Bool, and_parts, eq-eqb, eqb-true, both_ways}
 use Rattle.std.proofs.lemmas.Bool.Decides.{nat_tests}
 use Rattle.network.specs.Meaning.{Meaning}
 use Rattle.network.proofs.Counting.{count_below_more, count_below_same}
 use Rattle.measure.specs.Measures.{Operations, Laws}
 use Rattle.equivalence.specs.Totals.{total}
-use Rattle.equivalence.specs.Regular.{Table, Balanced, Even, Regular, members}
+use Rattle.equivalence.specs.Regular.{Table, Even, Regular, members}
 use Rattle.equivalence.specs.Heads.{head_of, is_head, roles}
 use Rattle.equivalence.specs.Coarsest.{Refines, Covers}
 use Rattle.equivalence.specs.Splitting.{leaves, Split, Parted, SplitLaw}
-use Rattle.equivalence.proofs.Heads.{head_le, head_same, same_head, head_again, head_mate, head_decides}
+use Rattle.equivalence.proofs.Heads.{head_same, same_head, head_again, head_decides}
 use Rattle.equivalence.proofs.Unions.{balanced_union}
 
 module _ {V : Type 0} (o : Operations V) (laws : Laws o) (m : Meaning) (role : Table) (part : ℕ) (among : ℕ → Bool) where

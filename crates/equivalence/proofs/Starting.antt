@@ -24,6 +24,10 @@ module _ (m : Meaning) (colours : Table) where
   pub starting_tells : (x y : ℕ) → (starting_classes m colours x ≡ starting_classes m colours y) ↔ (starts_with m colours x y ≡ true)
   starting_tells = name_tells (starts_with m colours) starting_equivalence
 
+  -- nodes of one class have one colour
+  pub starting_colours : (x y : ℕ) → starting_classes m colours x ≡ starting_classes m colours y → colours x ≡ colours y
+  starting_colours x y e = eqb-true (colours x) (colours y) ((starting_tells x y).0 e)
+
   pub starting_again : (x : ℕ) → starting_classes m colours (starting_classes m colours x) ≡ starting_classes m colours x
   starting_again = name_again (starts_with m colours) starting_equivalence
 

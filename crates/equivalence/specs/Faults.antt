@@ -1,4 +1,4 @@
--- The number, the layer and the words of each refusal of the vet.
+-- The number, the layer and the words of each refusal of the vet. Assumes nothing.
 use Rattle.std.specs.Prelude.{ℕ, List, codes}
 use Rattle.network.specs.declared.faults.Layer.{Layer}
 use Rattle.equivalence.specs.declared.faults.Fault.{Fault}

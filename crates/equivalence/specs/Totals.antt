@@ -4,7 +4,8 @@
 --   share       what one node brings to a total
 --   total       what node x has with the nodes of a set
 --   labelled    the set of the nodes whose byte in a list is the label
-use Rattle.std.specs.Prelude.{ℕ, zero, suc, Bool, cond, ◌&&◌, List, length, ◌==◌, nat_lt, slice_index}
+--   flag        the flag of a node in a list of flags
+use Rattle.std.specs.Prelude.{ℕ, zero, suc, Bool, false, cond, ◌&&◌, List, length, ◌==◌, nat_lt, slice_index, slice_index_or}
 use Rattle.network.specs.Meaning.{Meaning}
 use Rattle.measure.specs.Measures.{Operations}
 
@@ -21,3 +22,6 @@ total o m x among = gather o (share o m x among) m.nodes
 
 abbrev pub labelled : List ℕ → ℕ → ℕ → Bool
 labelled labels label y = nat_lt y (length labels) && slice_index labels y == label
+
+abbrev pub flag : List Bool → ℕ → Bool
+flag flags x = slice_index_or flags x false

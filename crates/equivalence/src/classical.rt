@@ -17,19 +17,20 @@ use measure::kinds::Kinds;
 use measure::tally::Tally;
 use network::interface::Readable;
 
-// A measure under which regular is a notion of its field.
-// Each impl proves its notion at its own `vet`: as a law of the trait, the proofs of all three would have to stand in specs/.
+/// A measure under which regular is a notion of its field. The `vet` of each proves that notion.
 pub trait Classical: Measure {
     ghost notion: { Meaning → Table → Type 0 };
 
-    // The vet: yes exactly when the table is as the notion says.
+    /// The vet under this measure: yes exactly when the table is as the notion says.
     fn vet<N: Readable>(
         &self,
         network: &N,
         table: &[u8],
     ) -> Result<Option<(usize, usize, usize)>, Fault>
-        ensures vetted { Vetted Self.Measure.ops (N.Readable.meaning network.now) table.now result }
-        ensures classical { YesExactly (N.Readable.meaning network.now) table.now result (notion (N.Readable.meaning network.now)) };
+        ensures vetted { let m = N.Readable.meaning network.now in
+            Vetted Self.Measure.ops m table.now result }
+        ensures classical { let m = N.Readable.meaning network.now in
+            YesExactly m table.now result (notion m) };
 }
 
 // Yes exactly when the table is a regular equivalence of each of the eight kinds of tie.
@@ -41,15 +42,17 @@ impl Classical for Kinds {
         network: &N,
         table: &[u8],
     ) -> Result<Option<(usize, usize, usize)>, Fault>
-        ensures vetted { Vetted kinds (N.Readable.meaning network.now) table.now result }
-        ensures classical { YesExactly (N.Readable.meaning network.now) table.now result (RegularInEach (N.Readable.meaning network.now)) }
+        ensures vetted { let m = N.Readable.meaning network.now in
+            Vetted kinds m table.now result }
+        ensures classical { let m = N.Readable.meaning network.now in
+            YesExactly m table.now result (RegularInEach m) }
         ensures theorem { RegularUnderKinds }
     {
         vet(network, &Kinds, table)
     }
 }
 
-// Yes exactly when the table is a multiplex regular equivalence, over kinds 0 to 2 and their inverses.
+// Yes exactly when the table is a multiplex regular equivalence over kinds 0 to 2, each way.
 impl Classical for Bundles {
     ghost notion = { MultiplexRegular };
 
@@ -58,8 +61,10 @@ impl Classical for Bundles {
         network: &N,
         table: &[u8],
     ) -> Result<Option<(usize, usize, usize)>, Fault>
-        ensures vetted { Vetted bundles (N.Readable.meaning network.now) table.now result }
-        ensures classical { YesExactly (N.Readable.meaning network.now) table.now result (MultiplexRegular (N.Readable.meaning network.now)) }
+        ensures vetted { let m = N.Readable.meaning network.now in
+            Vetted bundles m table.now result }
+        ensures classical { let m = N.Readable.meaning network.now in
+            YesExactly m table.now result (MultiplexRegular m) }
         ensures theorem { RegularUnderBundles }
     {
         vet(network, &Bundles, table)
@@ -75,12 +80,14 @@ impl Classical for Tally {
         network: &N,
         table: &[u8],
     ) -> Result<Option<(usize, usize, usize)>, Fault>
-        ensures vetted { Vetted tally (N.Readable.meaning network.now) table.now result }
-        ensures classical { YesExactly (N.Readable.meaning network.now) table.now result (Equitable (N.Readable.meaning network.now)) }
+        ensures vetted { let m = N.Readable.meaning network.now in
+            Vetted tally m table.now result }
+        ensures classical { let m = N.Readable.meaning network.now in
+            YesExactly m table.now result (Equitable m) }
         ensures theorem { RegularUnderTally }
         ensures counts { TrueCounts }
     {
-        // Asked for its promise alone: at most 128 nodes, so that a count never meets its cap.
+        // For its promise alone: at most 128 nodes, so that a count never meets its cap.
         let _few = network.nodes();
         vet(network, &Tally, table)
     }

@@ -1,14 +1,16 @@
 // Small networks with known tables.
 use super::classical::Classical;
 use super::faults::Fault;
+use super::leaving::leaving;
 use super::totals::{total_over, total_toward};
 use super::vetting::vet;
 use measure::bundles::Bundles;
 use measure::interface::Measure;
 use measure::kinds::Kinds;
 use measure::tally::Tally;
+use measure::tally::counts::Counts;
 use network::faults::Layer;
-use network::interface::Editable;
+use network::interface::{Editable, Readable};
 use network::matrix::Matrix;
 use network::no_loops::NoLoops;
 use network::turned::Turned;
@@ -199,9 +201,17 @@ fn the_network_without_nodes_has_the_empty_table(rt: HostRuntime) -> Result<(), 
     Ok(())
 }
 
+// The total of node 0 over a list of nodes.
+fn over(rt: &impl Abort, network: &Matrix, nodes: &[u8]) -> Counts {
+    let n = network.nodes();
+    assert!(rt; n > 0 && nodes.iter().all(|&y| usize::from(y) < n));
+    total_over(network, &Tally, 0, nodes)
+}
+
 #[test]
 fn a_total_takes_each_node_of_the_set(rt: HostRuntime) -> Result<(), Fail> {
     let network = matrix(&rt, rt.alloc(), 3, &[(0, 1), (2, 0)])?;
+    assert!(rt; network.nodes() > 0);
     let all = total_toward(&network, &Kinds, 0, &[7, 7, 7], 7);
     assert!(rt; Kinds.same(all, Kinds.weigh(1, 1)));
     let some = total_toward(&network, &Kinds, 0, &[7, 7], 7);
@@ -220,16 +230,24 @@ fn a_list_is_joined_node_by_node(rt: HostRuntime) -> Result<(), Fail> {
     let network = matrix(&rt, rt.alloc(), 3, &[(0, 1), (2, 0)])?;
     let out = Tally.weigh(1, 0);
     let into = Tally.weigh(0, 1);
-    assert_eq!(rt; total_over(&network, &Tally, 0, &[]), Tally.none());
-    assert_eq!(rt; total_over(&network, &Tally, 0, &[1]), out);
-    assert_eq!(rt;
-        total_over(&network, &Tally, 0, &[0, 1, 2]),
-        Tally.join(out, into)
-    );
-    // A node that is listed twice counts twice, and one that is none has no tie.
-    assert_eq!(rt;
-        total_over(&network, &Tally, 0, &[1, 1, 3]),
-        Tally.join(out, out)
-    );
+    assert_eq!(rt; over(&rt, &network, &[]), Tally.none());
+    assert_eq!(rt; over(&rt, &network, &[1]), out);
+    assert_eq!(rt; over(&rt, &network, &[0, 1, 2]), Tally.join(out, into));
+    // A node that is listed twice counts twice.
+    assert_eq!(rt; over(&rt, &network, &[1, 1, 0]), Tally.join(out, out));
+    Ok(())
+}
+
+#[test]
+fn those_leave_that_have_not_the_total_of_part(rt: HostRuntime) -> Result<(), Fail> {
+    let network = matrix(&rt, rt.alloc(), 5, &TEAMS)?;
+    let n = network.nodes();
+    let nodes = [1, 2, 4];
+    let table = [0, 0, 0, 0, 1];
+    assert!(rt; n == 5 && nodes.iter().all(|&y| usize::from(y) < n));
+    let leave = leaving(&network, &Kinds, &table, 0, &nodes);
+    assert!(rt; (&leave[..5]) == [false, true, true, false, false].as_slice());
+    let leave = leaving(&network, &Tally, &table, 0, &nodes);
+    assert!(rt; (&leave[..5]) == [false, true, true, true, false].as_slice());
     Ok(())
 }

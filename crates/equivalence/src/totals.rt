@@ -6,7 +6,7 @@ ghost use Rattle.equivalence.specs.Totals.{total, labelled};
 use measure::interface::Measure;
 use network::interface::Readable;
 
-// What y brings to a total of x: the byte that goes out to y, and the byte that comes in.
+// What y brings to a total of x.
 fn brought<N: Readable, M: Measure>(network: &N, measure: &M, x: usize, y: usize) -> M::Value
     requires of { x < (N.Readable.meaning network.now).nodes }
     requires with { y < (N.Readable.meaning network.now).nodes }
@@ -16,7 +16,9 @@ fn brought<N: Readable, M: Measure>(network: &N, measure: &M, x: usize, y: usize
     measure.weigh(network.tie(x, y), network.tie(y, x))
 }
 
-// The total of x toward the nodes whose byte among the labels is `label`. One pass, and one weigh for each such node.
+/// The total of x toward the nodes whose byte among the labels is `label`. One pass, and one weigh
+/// for each such node. The engine's own, so that x is a node; bytes past the last node count for
+/// nothing, and a node past the last byte is not in the set.
 pub fn total_toward<N: Readable, M: Measure>(
     network: &N,
     measure: &M,
@@ -34,8 +36,9 @@ pub fn total_toward<N: Readable, M: Measure>(
         .fold(measure.none(), |sum, value| measure.join(sum, value))
 }
 
-// What x has with the nodes of a list, joined: its total toward a set, where the list has the nodes of the set in order.
-// One weigh for each of them.
+/// What x has with the nodes of a list, joined: its total toward a set, where the list has the
+/// nodes of the set in order. One weigh for each of them. The engine's own, so that x and those
+/// that are listed are nodes.
 pub fn total_over<N: Readable, M: Measure>(
     network: &N,
     measure: &M,

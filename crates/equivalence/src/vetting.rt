@@ -46,7 +46,8 @@ impl<'a, N: Readable, M: Measure> Vetting<'a, N, M> {
         ensures { let m = N.Readable.meaning self.now.network.now in
             let head = head_of (table_of self.now.table.now) y in
             let among = labelled self.now.table.now role in
-            result ≡ M.Measure.ops.same (total M.Measure.ops m head among) (total M.Measure.ops m y among) }
+            let o = M.Measure.ops in
+            result ≡ o.same (total o m head among) (total o m y among) }
     {
         let x = self.head(y);
         x == y || self.measure.same(self.total(x, role), self.total(y, role))
@@ -83,9 +84,11 @@ impl<'a, N: Readable, M: Measure> Vetting<'a, N, M> {
     }
 }
 
-// Whether the table is regular, equal bytes being one role: none where it is, else three nodes that show that it is not.
-// At most 2 n * n weighs and 3 n * n * n comparisons of table bytes; no memory but the answer.
-// The nodes are plain numbers in the answer, as in every call of the engine.
+/// Whether the table is regular, equal bytes being one role: none where it is, else three nodes
+/// x, y and z that show that it is not: x and y share a role, and have unequal totals toward z's.
+/// Refuses a table that has not one byte for each node. Alters nothing.
+///
+/// At most 2 n * n weighs and 3 n * n * n comparisons of table bytes, and no memory.
 pub fn vet<N: Readable, M: Measure>(
     network: &N,
     measure: &M,

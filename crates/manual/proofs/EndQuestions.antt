@@ -7,15 +7,15 @@ use Rattle.std.proofs.lemmas.Bool.Decides.{nat_tests}
 use Rattle.network.specs.Meaning.{Meaning}
 use Rattle.measure.specs.Measures.{Operations}
 use Rattle.measure.specs.Bits.{bit}
-use Rattle.measure.specs.BitsLemmas.{bit_low}
 use Rattle.measure.specs.Kinds.{kinds}
 use Rattle.measure.specs.Bundles.{bundles, bundle}
 use Rattle.measure.specs.Tally.{tally}
-use Rattle.measure.proofs.BundleBits.{bit-singleton}
 use Rattle.equivalence.specs.Totals.{total}
 use Rattle.equivalence.specs.Regular.{Table}
 use Rattle.equivalence.specs.Equitable.{out_neighbours}
-use Rattle.equivalence.proofs.SetTotals.{SetPart, node_from_total, total_from_node}
+use Rattle.equivalence.proofs.SetTotals.{Member, node_from_total, total_from_node}
+use Rattle.equivalence.proofs.RegularEquivalence.{out_member}
+use Rattle.equivalence.proofs.MultiplexEquivalence.{bundle_member}
 use Rattle.equivalence.proofs.EquitablePartition.{true_counts}
 use Rattle.question.specs.Lines.{claim}
 use Rattle.question.specs.Truth.{Places, row, claimed, line_row, rows, answer, each_node}
@@ -60,42 +60,36 @@ toward_holds o m colours s t lines is plain x =
     ap (λ r. r x) (answer_by_claims o m colours each_node lines (toward_claims s t) is)
     ∙ ap (λ among. o.holds (total o m x (λ y. not (o.holds (total o m y among) s))) t) every
 
--- of a measure whose values are sets, where the tests ask for the members s and t
-module _ {V : Type 0} (o : Operations V) (part : V → ℕ) (lack has : ℕ → ℕ → Bool) (s t : ℕ) (is_lack : SetPart o part lack s) (is_has : SetPart o part has t) (m : Meaning) where
-  abbrev lacking : ℕ → Bool
-  lacking y = not (bit (part (total o m y any)) s)
-
+-- of a measure of sets, where the tests ask for members
+module _ {V : Type 0} (o : Operations V) (lack has : ℕ → ℕ → Bool) (s t : ℕ) (is_lack : Member o s lack) (is_has : Member o t has) (m : Meaning) where
   abbrev Toward : ℕ → Type 0
   Toward x = (y : ℕ) × (y < m.nodes) × (has (m.tie x y) (m.tie y x) ≡ true) × ((z : ℕ) → z < m.nodes → ¬ (lack (m.tie y z) (m.tie z y) ≡ true))
 
-  lacking_decides : (y : ℕ) → Decides (lacking y) ((z : ℕ) → z < m.nodes → ¬ (lack (m.tie y z) (m.tie z y) ≡ true))
-  lacking_decides y =
-      elim (cases_Bool (bit (part (total o m y any)) s)) [
+  lacks_decides : (y : ℕ) → Decides (lacks o m s y) ((z : ℕ) → z < m.nodes → ¬ (lack (m.tie y z) (m.tie z y) ≡ true))
+  lacks_decides y =
+      elim (cases_Bool (o.holds (total o m y any) s)) [
         | inl held ↦
-            let (z, node, inner, brings) = node_from_total o part lack s is_lack m y any held in
+            let (z, node, inner, brings) = node_from_total o s lack is_lack m y any held in
             (λ e. absurd (cc), λ none. absurd (none z node brings))
-        | inr free ↦ (λ _ z l brings. let held = total_from_node o part lack s is_lack m y any z l refl brings in absurd (cc), λ _. ap not free)
+        | inr free ↦ (λ _ z l brings. let held = total_from_node o s lack is_lack m y any z l refl brings in absurd (cc), λ _. ap not free)
       ]
 
-  toward_decides : (x : ℕ) → Decides (bit (part (total o m x lacking)) t) (Toward x)
+  toward_decides : (x : ℕ) → Decides (o.holds (total o m x (lacks o m s)) t) (Toward x)
   toward_decides x = (
-    λ e. let (y, node, inner, brings) = node_from_total o part has t is_has m x lacking e in (y, node, brings, (lacking_decides y).0 inner),
-    λ (y, node, brings, none). total_from_node o part has t is_has m x lacking y node ((lacking_decides y).1 none) brings,
+    λ e. let (y, node, inner, brings) = node_from_total o t has is_has m x (lacks o m s) e in (y, node, brings, (lacks_decides y).0 inner),
+    λ (y, node, brings, none). total_from_node o t has is_has m x (lacks o m s) y node ((lacks_decides y).1 none) brings,
   )
 
-out_kind : SetPart kinds (λ v. v.out) (λ o i. bit o 0) 0
-out_kind = record { of_none = refl; of_weigh = λ o i. bit_low 8 0 o (omega arith); of_join = λ a b. refl }
+out_kind : Member kinds 0 (λ o i. bit o 0)
+out_kind = out_member 0 (omega arith)
 
 pub asks_kinds : (lines : List Line) → map claim lines ≡ toward_claims 0 0 → Means kinds TiedToAnEnd lines
 asks_kinds lines is m colours few plain x node =
-    rw (toward_holds kinds m colours 0 0 lines is plain x) (toward_decides kinds (λ v. v.out) _ _ 0 0 out_kind out_kind m x)
-
-member : (k : ℕ) → SetPart bundles (λ v. v.members) (λ o i. ltb 0 k && eqb (bundle o i) k) k
-member k = record { of_none = refl; of_weigh = λ o i. bit-singleton (bundle o i) k; of_join = λ a b. refl }
+    rw (toward_holds kinds m colours 0 0 lines is plain x) (toward_decides kinds _ _ 0 0 out_kind out_kind m x)
 
 pub asks_bundles : (lines : List Line) → map claim lines ≡ toward_claims 9 1 → Means bundles TiedOneWay lines
 asks_bundles lines is m colours few plain x node =
-    let both = toward_decides bundles (λ v. v.members) _ _ 9 1 (member 9) (member 1) m x in
+    let both = toward_decides bundles _ _ 9 1 (bundle_member 9 (omega arith)) (bundle_member 1 (omega arith)) m x in
     rw (toward_holds bundles m colours 9 1 lines is plain x) (
       λ e. let (y, l, out, none) = both.0 e in (y, l, eqb-true _ 1 out, λ z h both_ways. none z h (eq-eqb _ 9 both_ways)),
       λ (y, l, out, none). both.1 (y, l, eq-eqb _ 1 out, λ z h both_ways. none z h (eqb-true _ 9 both_ways)),

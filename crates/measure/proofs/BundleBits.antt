@@ -1,10 +1,11 @@
--- The number of a bundle, and the kinds in it. Assumes nothing.
+-- The number of a bundle, and the kinds in it.
 use Rattle.std.proofs.Common.{◌≡◌, ℕ, ◌+◌, ◌*◌, ◌%◌, ◌<◌, true, ◌&&◌, eqb, ltb, ◌⊎◌, sym, ap, ◌∙◌, ap₂, inl, inr, arith}
 use Rattle.std.proofs.lemmas.Bool.{cases_lt, both_ways}
 use Rattle.std.proofs.lemmas.Bool.Decides.{nat_tests}
 use Rattle.measure.specs.Bits.{bit}
 use Rattle.measure.specs.Bundles.{bundle, singleton}
-use Rattle.measure.specs.BitsLemmas.{bit_low, bit_zero, bit_power, same_bits, some_bit}
+use Rattle.measure.specs.BitsLemmas.{same_bits}
+use Rattle.measure.proofs.Bits.{bit_low, bit_zero, bit_power, some_bit}
 
 -- the set of one number has that number alone, and 0 is never in it
 pub bit-singleton : (n k : ℕ) → bit (singleton n) k ≡ (ltb 0 k && eqb n k)

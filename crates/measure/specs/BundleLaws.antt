@@ -1,4 +1,4 @@
--- The laws of bundles. Assumes nothing.
+-- The laws of bundles.
 use Rattle.std.specs.Prelude.{◌≡◌, ◌^◌, ◌<◌, refl}
 use Rattle.std.proofs.Common.{ap}
 use mathlib.Core.HLevel.{is_prop→PathP}

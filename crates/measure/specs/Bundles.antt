@@ -1,8 +1,10 @@
--- The measure bundles: which combinations of kinds 0 to 2, out and in together, there are with a single node. Assumes nothing.
+-- The measure bundles: which combinations of kinds 0 to 2, out and in together, there are with a single node.
 --
---   bundle       the number of the combination, 0 where there is none of these kinds
---   singleton    the set of one such number, or the empty set for 0
---   bundles      sets of such numbers
+--   bundle           the number of the combination, 0 where there is none of these kinds
+--   singleton        the set of one such number, or the empty set for 0
+--   bundles_weigh    the combination of one pair
+--   bundles_join     the combinations of two values together
+--   bundles          sets of such numbers
 use Rattle.std.specs.Prelude.{ℕ, ◌+◌, ◌*◌, ◌%◌, ◌^◌, ◌<◌, cond, ◌&&◌, ◌==◌, bit_or, nat_lt}
 use Rattle.std.proofs.lemmas.Nat.{or_lt}
 use Rattle.std.proofs.Common.{lit<, arith}

@@ -1,4 +1,4 @@
--- The laws of kinds. Assumes nothing.
+-- The laws of kinds.
 use Rattle.std.specs.Prelude.{◌≡◌, ◌<◌, refl}
 use Rattle.std.proofs.Common.{ap}
 use mathlib.Core.HLevel.{is_prop→PathP}

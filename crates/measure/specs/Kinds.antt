@@ -1,4 +1,8 @@
--- The measure kinds: which kinds of tie go out, and which come in. Assumes nothing.
+-- The measure kinds: which kinds of tie go out, and which come in.
+--
+--   kinds_weigh    the kinds of one pair
+--   kinds_join     the kinds of two values together
+--   kinds          sets of kinds
 use Rattle.std.specs.Prelude.{ℕ, ◌-◌, ◌%◌, false, cond, ◌&&◌, ◌==◌, bit_or, nat_lt}
 use Rattle.std.proofs.lemmas.Nat.{or_lt}
 use Rattle.std.proofs.Common.{arith}

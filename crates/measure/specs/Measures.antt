@@ -1,4 +1,4 @@
--- What a measure is. Assumes nothing.
+-- What a measure is.
 --
 --   Operations    no ties, one pair's ties, two values together, sameness, tests
 --   Laws          what every measure keeps

@@ -1,7 +1,9 @@
--- The measure tally: how many ties go out, and how many come in. Assumes nothing.
+-- The measure tally: how many ties go out, and how many come in.
 --
 --   one_if_tied    1 for a byte above 0, else 0
 --   capped_sum     two counts together, at most 128
+--   tally_weigh    the ties of one pair
+--   tally_join     the counts of two values together
 --   tally          counts of ties
 use Rattle.std.specs.Prelude.{ℕ, ◌+◌, ◌-◌, ◌≤◌, min, cond, ◌&&◌, ◌==◌, nat_lt}
 use Rattle.std.proofs.Common.{arith}

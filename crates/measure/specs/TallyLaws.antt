@@ -1,4 +1,4 @@
--- The laws of tally. Assumes nothing.
+-- The laws of tally.
 use Rattle.std.specs.Prelude.{◌≡◌, ◌≤◌, refl}
 use Rattle.std.proofs.Common.{ap, arith}
 use mathlib.Core.HLevel.{is_prop→PathP}

@@ -7,15 +7,17 @@ use super::interface::Measure;
 use super::members::has;
 use std::fmt;
 
-// A value of bundles.
+/// A value of bundles.
 pub mod set;
 
 use set::BundleSet;
 
+/// Weighs ties by bundles: a value has the combinations of kinds 0 to 2, out and in together, that
+/// there are with a single node. Kinds 3 to 7 count for nothing.
 #[derive(Clone, Copy, Debug)]
 pub struct Bundles;
 
-// By hand, as for the other measures: no derive states what is printed.
+// By hand, since no derive states what is printed.
 impl fmt::Display for Bundles {
     ghost output = { λ _. Some (codes "bundles") };
 
@@ -55,13 +57,13 @@ impl Measure for Bundles {
         a == b
     }
 
-    // Test t up to 63 asks for bundle t. No other holds.
+    /// Test t up to 63 asks for bundle t. No other holds.
     fn holds(&self, v: BundleSet, t: u8) -> bool {
         t < 64 && has(v.members, t)
     }
 }
 
-// The number of a bundle: the kinds that go out are its bits 0 to 2, those that come in its bits 3 to 5.
+// The number of a bundle: bits 0 to 2 are the kinds that go out, bits 3 to 5 those that come in.
 fn bundle(out: u8, into: u8) -> u8
     ensures { result ≡ bundle out into }
 {

@@ -7,15 +7,17 @@ use super::interface::Measure;
 use super::members::has;
 use std::fmt;
 
-// A value of kinds.
+/// A value of kinds.
 pub mod sets;
 
 use sets::KindSets;
 
+/// Weighs ties by their kinds: a value has the set of kinds that go out to some node, and the set
+/// of those that come in from some node.
 #[derive(Clone, Copy, Debug)]
 pub struct Kinds;
 
-// By hand, as for the other measures: no derive states what is printed.
+// By hand, since no derive states what is printed.
 impl fmt::Display for Kinds {
     ghost output = { λ _. Some (codes "kinds") };
 
@@ -50,7 +52,7 @@ impl Measure for Kinds {
         a == b
     }
 
-    // Tests 0 to 7 ask for a kind that goes out, 8 to 15 for one that comes in. No other holds.
+    /// Tests 0 to 7 ask for a kind that goes out, 8 to 15 for one that comes in. No other holds.
     fn holds(&self, v: KindSets, t: u8) -> bool {
         match t {
             0..=7 => has(u64::from(v.out), t),

@@ -6,15 +6,17 @@ ghost use Rattle.measure.specs.TallyLaws.{tally_laws};
 use super::interface::Measure;
 use std::fmt;
 
-// A value of tally.
+/// A value of tally.
 pub mod counts;
 
 use counts::Counts;
 
+/// Weighs ties by their number, whatever their kinds: a value counts those that go out and those
+/// that come in.
 #[derive(Clone, Copy, Debug)]
 pub struct Tally;
 
-// By hand, as for the other measures: no derive states what is printed.
+// By hand, since no derive states what is printed.
 impl fmt::Display for Tally {
     ghost output = { λ _. Some (codes "tally") };
 
@@ -53,7 +55,8 @@ impl Measure for Tally {
         a == b
     }
 
-    // Tests 0 to 127 ask for more than t ties that go out, 128 to 255 for more than t - 128 that come in.
+    /// Tests 0 to 127 ask for more than t ties that go out, tests 128 to 255 for more than t - 128
+    /// that come in.
     fn holds(&self, v: Counts, t: u8) -> bool {
         if t < 128 { v.out > t } else { v.into > t - 128 }
     }

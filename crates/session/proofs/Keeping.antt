@@ -1,67 +1,79 @@
--- What the table of an open session keeps. Assumes nothing.
-use Rattle.std.proofs.Common.{◌≡◌, ℕ, ◌+◌, ◌<◌, ◌≤◌, refl, length, set, List, replicate, inl, inr, ap, arith}
+-- What the table of an open session keeps.
+use Rattle.std.proofs.Common.{◌≡◌, ℕ, ◌+◌, ◌<◌, ◌≤◌, refl, length, set, List, replicate, inl, inr, ap, ◌∙◌, arith}
 use Rattle.std.proofs.lemmas.Bool.{cases_lt}
 use Rattle.std.proofs.lemmas.Bool.Decides.{nat_tests}
 use Rattle.std.proofs.lemmas.Grind.{common_steps}
 use Rattle.std.proofs.lemmas.List.{get_or-replicate, get_or_past}
 use Rattle.network.specs.Meaning.{Meaning, count_below}
 use Rattle.measure.specs.Measures.{Operations, Laws}
+use Rattle.equivalence.specs.Regular.{Table, members}
+use Rattle.equivalence.specs.Heads.{roles}
+use Rattle.equivalence.specs.Starting.{starting_classes}
+use Rattle.equivalence.specs.Coarsest.{Covers}
 use Rattle.equivalence.specs.Vetted.{table_of}
-use Rattle.equivalence.specs.Regular.{Table}
-use Rattle.equivalence.specs.Coarsest.{Between, roles}
-use Rattle.equivalence.specs.Splitting.{members}
-use Rattle.equivalence.proofs.Refinement.{roles_le, between_start, between_split}
-use Rattle.session.specs.Roles.{head_at, record_at}
-use Rattle.session.specs.Sessions.{Starting, colours_after}
-use Rattle.session.specs.States.{IsSound, record_of, state_with}
+use Rattle.equivalence.proofs.Refinement.{covers_started, started_roles}
+use Rattle.equivalence.proofs.Splitting.{covers_split, split_law}
+use Rattle.session.specs.Sessions.{Begun, colours_after}
+use Rattle.session.specs.States.{IsSound, State, class_count, classes, record_of, role_count, state_with}
 use Rattle.session.specs.Steps.{InTwo}
-use Rattle.session.specs.Tables.{class_in, role_in}
+use Rattle.session.specs.Tables.{Starting, class_in, count_in, head_in, nodes_in, record_in, role_in}
 use Rattle.session.specs.declared.table.Table.{Table as RoleTable}
 use Rattle.session.proofs.Counted.{counted}
 
-module _ (t : RoleTable) where
+module _ (t : RoleTable) (n : ℕ) (fits : nodes_in t ≡ n) where
   -- as many records as roles
-  pub records : length t.roles.items ≡ roles (role_in t) (length t.role_of.items)
-  records = counted (length t.role_of.items) (role_in t) (length t.roles.items) (record_at t.roles.items) t.kept.described t.kept.ranged
+  pub numbered : count_in t ≡ roles (role_in t) n
+  numbered = counted t ∙ ap (roles (role_in t)) fits
 
-  module _ (n : ℕ) (fits : length t.role_of.items ≡ n) where
-    pub numbered : length t.roles.items ≡ roles (role_in t) n
-    numbered = rw fits at records
+module _ (t : RoleTable) {V : Type 0} (o : Operations V) (m : Meaning) where
+  abbrev state : State
+  state = state_with m t
 
   -- what an open session keeps of its table
-  module _ {V : Type 0} (o : Operations V) (m : Meaning) (fits : length t.role_of.items ≡ m.nodes) where
-    pub sound : Between o m (class_in t) (role_in t) → t.splits + roles (class_in t) m.nodes ≡ roles (role_in t) m.nodes → IsSound o (state_with m t)
-    sound between counted =
+  module _ (fits : nodes_in t ≡ m.nodes) where
+    pub sound : Covers o m (classes state) (role_in t) → t.splits + class_count state ≡ role_count state → IsSound o state
+    sound covers tallied =
         record {
-          few = omega (arith, fits, t.kept.few);
+          few = omega (arith, fits, t.recorded.few);
           entries = fits;
-          ranged = λ x l. omega (arith, numbered m.nodes fits, t.kept.ranged x (omega (arith, fits)));
+          ranged = λ x l. omega (arith, numbered t m.nodes fits, t.recorded.ranged x (omega (arith, fits)));
           described = λ r l.
-              let told = t.kept.described r (omega (arith, numbered m.nodes fits)) in
+              let told = t.recorded.described r (omega (arith, numbered t m.nodes fits)) in
               record { node = omega (arith, fits, told.node); mate = told.mate; lowest = told.lowest; size = refl };
-          between = between;
-          counted = counted;
+          covers = covers;
+          counted = tallied;
         }
 
     -- the record that is kept of a role
-    pub recorded : (r : ℕ) → r < length t.roles.items → record_at t.roles.items r ≡ record_of (state_with m t) r
+    pub recorded : (r : ℕ) → r < count_in t → record_in t r ≡ record_of state r
     recorded r l =
-        let size : (record_at t.roles.items r).size ≡ count_below (members (role_in t) r) m.nodes = rw fits at (t.kept.described r l).size in
-        ap (λ (k : ℕ). record { head = head_at t.roles.items r; size = k }) size
+        let size : (record_in t r).size ≡ count_below (members (role_in t) r) m.nodes = rw fits at (t.recorded.described r l).size in
+        ap (λ (k : ℕ). record { head = head_in t r; size = k }) size
 
-    -- at the starting classes, no role was split
-    pub sound_begun : Starting m.nodes (class_in t) (role_in t) → t.splits ≡ 0 → IsSound o (state_with m t)
-    sound_begun start unsplit =
-        sound (between_start o m (class_in t) (role_in t) start.0 start.1)
-        (omega (arith, unsplit, roles_le m.nodes (role_in t) (class_in t) start.0, roles_le m.nodes (class_in t) (role_in t) start.1))
+  -- at the starting classes
+  pub sound_begun : Starting m t → IsSound o state
+  sound_begun start =
+      sound start.nodes (covers_started o m (class_in t) (role_in t) start.heads)
+      (omega (arith, start.splits, started_roles o m (class_in t) (role_in t) start.heads))
 
-    -- after a split of a table that kept it
-    pub sound_split : (laws : Laws o) (old : RoleTable) (part toward fresh : ℕ) → IsSound o (state_with m old) → InTwo o (state_with m old) (state_with m t) part toward fresh → IsSound o (state_with m t)
-    sound_split laws old part toward fresh was two =
-        let same : roles (class_in t) m.nodes ≡ roles (class_in old) m.nodes = ap (λ (cs : Table). roles cs m.nodes) two.colours in
-        sound
-        (rw two.colours (between_split o laws m (class_in old) (role_in old) (role_in t) part toward fresh was.between two.split))
-        (omega (arith, same, was.counted, two.count, two.more))
+  -- after a split of a table that kept it
+  pub sound_split : (laws : Laws o) (old : RoleTable) (part toward fresh : ℕ) → nodes_in t ≡ m.nodes → IsSound o (state_with m old) → InTwo o (state_with m old) state part toward fresh → IsSound o state
+  sound_split laws old part toward fresh fits was two =
+      let same : class_count state ≡ class_count (state_with m old) = ap (λ (cs : Table). roles (starting_classes m cs) m.nodes) two.colours in
+      sound fits
+      (rw two.colours (covers_split o laws m (role_in old) (role_in t) part toward fresh two.split (classes (state_with m old)) was.covers))
+      (omega (arith, same, was.counted, two.count, (split_law o laws m (role_in old) (role_in t) part toward fresh two.split).more))
+
+-- a session that begins
+pub begun : (m : Meaning) (t : RoleTable) → Starting m t → (colours : Table) → class_in t ≡ colours → Begun m colours (state_with m t)
+begun m t start colours is =
+    record {
+      network = refl;
+      colours = is;
+      start = λ x l. rw is at (start.heads x l);
+      ordered = rw (numbered t m.nodes start.nodes) at t.recorded.ordered;
+      splits = start.splits;
+    }
 
 pub uncoloured : (x : ℕ) → table_of (replicate 128 0) x ≡ 0
 uncoloured x =

@@ -1,11 +1,9 @@
 pub mod Counted
 pub mod Records
-pub mod Writes
 pub mod Searches
 pub mod Rows
 pub mod Asked
 pub mod Ranges
-pub mod Starts
-pub mod Parts
 pub mod Keeping
 pub mod Splits
+pub mod Classes

@@ -1,196 +1,157 @@
--- Each change of the table keeps what its records say. Assumes nothing.
-use Rattle.std.proofs.Common.{◌≡◌, ℕ, ◌+◌, ◌-◌, ◌<◌, ◌≤◌, cond, eqb, sym, refl, ap, ◌∙◌, inl, inr, add-one, arith}
-use Rattle.std.proofs.lemmas.Bool.{cases_eq, cases_lt, eq-eqb, ne_eqb}
+-- Node by node, a table is recorded.
+use Rattle.std.proofs.Common.{◌≡◌, ℕ, ◌+◌, ◌<◌, ◌≤◌, List, [], ◌∷◌, ◌++◌, length, cond, eqb, get_or, set, get_or-set_same, get_or-set_other, length-set, refl, sym, ap, ◌∙◌, inl, inr, add-one, arith}
+use Rattle.std.proofs.lemmas.Bool.{cases_eq, eq-eqb, ne_eqb}
+use Rattle.std.proofs.lemmas.List.{places, get_or_push, length_push}
 use Rattle.network.specs.Meaning.{count_below}
-use Rattle.network.proofs.Counting.{sum_below_none, count_below_same, count_below_more}
-use Rattle.equivalence.specs.Regular.{Table}
-use Rattle.equivalence.specs.Splitting.{members}
-use Rattle.session.specs.Roles.{Recorded}
+use Rattle.network.proofs.Counting.{count_below_le, count_below_same, sum_below_none}
+use Rattle.equivalence.specs.Regular.{members}
+use Rattle.equivalence.specs.Vetted.{table_of}
+use Rattle.session.specs.Roles.{Described, Recorded, head_at, record_at}
 use Rattle.session.specs.declared.role.Role.{Role}
-use Rattle.session.proofs.Counted.{no_head}
-
--- new is old with v at x
-pub record Puts {V : Type 0} (old new : ℕ → V) (x : ℕ) (v : V) : Type 0 where
-  pub here : new x ≡ v
-  pub off : (y : ℕ) → (y ≡ x → ⊥) → new y ≡ old y
-
-module _ (old new : Table) (x r : ℕ) (takes : Puts old new x r) where
-  off_members : (s y : ℕ) → (y ≡ x → ⊥) → members old s y ≡ members new s y
-  off_members s y ne = ap (λ v. eqb v s) (sym (takes.off y ne))
-
-  -- x is the next node
-  before : (s : ℕ) → count_below (members old s) x ≡ count_below (members new s) x
-  before s = count_below_same (members old s) (members new s) x (λ k l. off_members s k (λ d. omega arith))
-
-  next_in : count_below (members new r) (x + 1) ≡ count_below (members old r) x + 1
-  next_in = let t = eq-eqb (new x) r takes.here in rw (add-one, t) (omega (arith, before r))
-
-  next_out : (s : ℕ) → (s ≡ r → ⊥) → count_below (members new s) (x + 1) ≡ count_below (members old s) x
-  next_out s ne = let t = ne_eqb (new x) s (λ d. ne (sym d ∙ takes.here)) in rw (add-one, t) (omega (arith, before s))
-
-  -- x is a node of another role
-  module _ (n : ℕ) (node : x < n) (other : old x ≡ r → ⊥) where
-    moved_in : count_below (members new r) n ≡ count_below (members old r) n + 1
-    moved_in = count_below_more (members old r) (members new r) n x node (ne_eqb (old x) r other) (eq-eqb (new x) r takes.here) (off_members r)
-
-    moved_out : count_below (members old (old x)) n ≡ count_below (members new (old x)) n + 1
-    moved_out =
-        count_below_more (members new (old x)) (members old (old x)) n x node
-        (ne_eqb (new x) (old x) (λ d. other (sym d ∙ takes.here)))
-        (eq-eqb (old x) (old x) refl)
-        (λ k ne. sym (off_members (old x) k ne))
-
-    moved_past : (s : ℕ) → (s ≡ r → ⊥) → (s ≡ old x → ⊥) → count_below (members new s) n ≡ count_below (members old s) n
-    moved_past s nr np =
-        count_below_same (members new s) (members old s) n (λ k l. elim (cases_eq k x) [
-          | inl e ↦ ne_eqb (new k) s (λ d. nr (sym d ∙ ap new e ∙ takes.here)) ∙ sym (ne_eqb (old k) s (λ d. np (sym d ∙ ap old e)))
-          | inr ne ↦ sym (off_members s k ne)
-        ])
-
--- a record's size becomes n
-module _ (old new : ℕ → Role) (r n : ℕ) (sizes : Puts old new r (record { head = (old r).head; size = n })) where
-  same_head : (s : ℕ) → (new s).head ≡ (old s).head
-  same_head s =
-      elim (cases_eq s r) [
-        | inl e ↦ ap (λ t. (new t).head) e ∙ ap (λ v. v.head) sizes.here ∙ ap (λ t. (old t).head) (sym e)
-        | inr ne ↦ ap (λ v. v.head) (sizes.off s ne)
-      ]
 
 abbrev pub grown : Role → Role
 grown v = record { head = v.head; size = v.size + 1 }
 
-abbrev pub shrunk : Role → Role
-shrunk v = record { head = v.head; size = v.size - 1 }
+pub none : Recorded [] []
+none =
+    record {
+      few = omega arith;
+      packed = omega arith;
+      ranged = λ x l. absurd (omega arith);
+      described = λ r l. absurd (omega arith);
+      ordered = λ q r l known. absurd (omega arith);
+    }
 
-module _ (n : ℕ) (role role' : Table) (count : ℕ) (old mid new : ℕ → Role) (kept : Recorded n role count old) where
+module _ (role_of : List ℕ) (roles : List Role) (was : Recorded role_of roles) where
+  -- a role has no more nodes than there are
+  pub size_le : (r : ℕ) → r < length roles → (record_at roles r).size ≤ 128
+  size_le r known = omega (arith, (was.described r known).size, count_below_le (members (table_of role_of) r) (length role_of), was.few)
+
   -- no node has the number of the next role
-  unused : count_below (members role count) n ≡ 0
-  unused = sum_below_none (λ k. cond (members role count k) 1 0) n (λ k l. let t = ne_eqb (role k) count (λ e. omega (arith, kept.ranged k l)) in rw t refl)
+  unused : count_below (members (table_of role_of) (length roles)) (length role_of) ≡ 0
+  unused =
+      sum_below_none (λ k. cond (members (table_of role_of) (length roles) k) 1 0) (length role_of)
+      (λ k l. let t = ne_eqb (table_of role_of k) (length roles) (λ e. omega (arith, was.ranged k l)) in rw t refl)
 
-  -- node x, the head of no role, takes role r, and m nodes are there afterwards; mid has the right heads, and the right sizes but for r
-  module _
-      (x r m : ℕ)
-      (takes : Puts role role' x r)
-      (apart : (s : ℕ) → s < count → (old s).head ≡ x → ⊥)
-      (node : x < m)
-      (few : m ≤ 128)
-      (more : n ≤ m)
-      (rest : (y : ℕ) → y < m → (y ≡ x → ⊥) → y < n)
-      (heads : (s : ℕ) → (mid s).head ≡ (old s).head)
-      (sizes : (s : ℕ) → s < count → (s ≡ r → ⊥) → (mid s).size ≡ count_below (members role' s) m) where
-    still_head : (s : ℕ) → s < count → role' (old s).head ≡ s
-    still_head s l = takes.off (old s).head (apart s l) ∙ (kept.described s l).mate
+  module _ (room : length role_of < 128) where
+    -- the next node is of role r
+    module _ (r : ℕ) where
+      abbrev next : List ℕ
+      next = role_of ++ r ∷ []
 
-    -- no node below the head has come to its role
-    still_lowest : (s k : ℕ) → s < count → k < (old s).head → (s ≡ r → (old r).head < x) → role' k ≡ s → ⊥
-    still_lowest s k l lt past e =
-        elim (cases_eq k x) [
-          | inl d ↦
-              let same : s ≡ r = sym e ∙ ap role' d ∙ takes.here in
-              omega (arith, past same, ap (λ t. (old t).head) same)
-          | inr ne ↦ (kept.described s l).lowest k lt (sym (takes.off k ne) ∙ e)
-        ]
+      longer : length next ≡ length role_of + 1
+      longer = length_push role_of r
 
-    still_ranged : (limit : ℕ) → r < limit → count ≤ limit → (y : ℕ) → y < m → role' y < limit
-    still_ranged limit fits wide y l =
-        elim (cases_eq y x) [
-          | inl e ↦ omega (arith, ap role' e, takes.here)
-          | inr ne ↦ omega (arith, takes.off y ne, kept.ranged y (rest y l ne))
-        ]
+      pub of_next : table_of next (length role_of) ≡ r
+      of_next = get_or_push role_of r 0 (length role_of) refl
 
-    -- r was a role
-    kept_known : r < count → (old r).head < x → (mid r).size + 1 ≡ count_below (members role' r) m → Puts mid new r (grown (mid r)) → Recorded m role' count new
-    kept_known known past one_more grows =
-        let heads' : (s : ℕ) → (new s).head ≡ (old s).head = λ s. same_head mid new r ((mid r).size + 1) grows s ∙ heads s in
-        record {
-          few = few;
-          packed = omega (arith, kept.packed);
-          ranged = still_ranged count known (omega arith);
-          described = λ s l. record {
-            node = omega (arith, heads' s, (kept.described s l).node);
-            mate = ap role' (heads' s) ∙ still_head s l;
-            lowest = λ k lt e. still_lowest s k l (omega (arith, heads' s)) (λ _. past) e;
-            size = elim (cases_eq s r) [
-              | inl e ↦ omega (arith, ap (λ t. (new t).size) e, ap (λ v. v.size) grows.here, one_more, ap (λ t. count_below (members role' t) m) e)
-              | inr ne ↦ ap (λ v. v.size) (grows.off s ne) ∙ sizes s l ne
+      pub of_earlier : (k : ℕ) → k < length role_of → table_of next k ≡ table_of role_of k
+      of_earlier k l = grind (arith, places)
+
+      before : (s : ℕ) → count_below (members (table_of next) s) (length role_of) ≡ count_below (members (table_of role_of) s) (length role_of)
+      before s = count_below_same (members (table_of next) s) (members (table_of role_of) s) (length role_of) (λ k l. ap (λ v. eqb v s) (of_earlier k l))
+
+      one_more : count_below (members (table_of next) r) (length next) ≡ count_below (members (table_of role_of) r) (length role_of) + 1
+      one_more = let t = eq-eqb (table_of next (length role_of)) r of_next in rw (longer, add-one, t) (omega (arith, before r))
+
+      as_many : (s : ℕ) → (s ≡ r → ⊥) → count_below (members (table_of next) s) (length next) ≡ count_below (members (table_of role_of) s) (length role_of)
+      as_many s ne = let t = ne_eqb (table_of next (length role_of)) s (λ d. ne (sym d ∙ of_next)) in rw (longer, add-one, t) (omega (arith, before s))
+
+      -- another role is as it was but for its size
+      still : (s : ℕ) → s < length roles → (v : Role) → v.head ≡ head_at roles s → v.size ≡ count_below (members (table_of next) s) (length next) → Described (length next) (table_of next) s v
+      still s l v head size =
+          let told = was.described s l in
+          record {
+            node = omega (arith, head, told.node, longer);
+            mate = ap (table_of next) head ∙ of_earlier (head_at roles s) told.node ∙ told.mate;
+            lowest = λ k under e. told.lowest k (omega (arith, head)) (sym (of_earlier k (omega (arith, head, told.node))) ∙ e);
+            size = size;
+          }
+
+    -- the next node joins role r
+    module _ (r : ℕ) (known : r < length roles) where
+      abbrev joining : List Role
+      joining = set roles r (grown (record_at roles r))
+
+      joined_here : record_at joining r ≡ grown (record_at roles r)
+      joined_here = get_or-set_same roles r (grown (record_at roles r)) _ known
+
+      joined_off : (s : ℕ) → (s ≡ r → ⊥) → record_at joining s ≡ record_at roles s
+      joined_off s ne = get_or-set_other roles r s (grown (record_at roles r)) _ ne
+
+      pub heads_joined : (s : ℕ) → head_at joining s ≡ head_at roles s
+      heads_joined s =
+          elim (cases_eq s r) [
+            | inl e ↦ rw e (ap (λ v. v.head) joined_here)
+            | inr ne ↦ ap (λ v. v.head) (joined_off s ne)
+          ]
+
+      sized : (s : ℕ) → s < length roles → (record_at joining s).size ≡ count_below (members (table_of (next r)) s) (length (next r))
+      sized s l =
+          elim (cases_eq s r) [
+            | inl e ↦ rw e (omega (arith, ap (λ v. v.size) joined_here, (was.described r known).size, one_more r))
+            | inr ne ↦ omega (arith, ap (λ v. v.size) (joined_off s ne), (was.described s l).size, as_many r s ne)
+          ]
+
+      pub joined : Recorded (next r) joining
+      joined =
+          let count : length joining ≡ length roles = length-set roles r (grown (record_at roles r)) in
+          record {
+            few = omega (arith, longer r);
+            packed = omega (arith, longer r, count, was.packed);
+            ranged = λ x l. elim (cases_eq x (length role_of)) [
+              | inl e ↦ omega (arith, ap (table_of (next r)) e, of_next r, count)
+              | inr ne ↦ omega (arith, of_earlier r x (omega (arith, longer r)), was.ranged x (omega (arith, longer r)), count)
             ];
-          };
-        }
+            described = λ s l. still r s (omega (arith, count)) (record_at joining s) (heads_joined s) (sized s (omega (arith, count)));
+            ordered = λ q s l k. omega (arith, heads_joined q, heads_joined s, was.ordered q s l (omega (arith, count)));
+          }
 
-    -- r is the next role
-    kept_fresh : r ≡ count → count < m → count_below (members role' r) m ≡ 1 → Puts mid new r (record { head = x; size = 1 }) → Recorded m role' (count + 1) new
-    kept_fresh fresh room alone opens =
-        let older : (s : ℕ) → s < count → new s ≡ mid s = λ s l. opens.off s (λ e. omega arith) in
-        let newer : (s : ℕ) → s < count + 1 → count ≤ s → s ≡ r = λ s l h. omega arith in
-        let heads' : (s : ℕ) → s < count → (new s).head ≡ (old s).head = λ s l. ap (λ v. v.head) (older s l) ∙ heads s in
-        let head_here : (s : ℕ) → s ≡ r → (new s).head ≡ x = λ s e. ap (λ t. (new t).head) e ∙ ap (λ v. v.head) opens.here in
+    -- the next node begins a role
+    abbrev alone : Role
+    alone = record { head = length role_of; size = 1 }
+
+    abbrev beginning : List Role
+    beginning = roles ++ alone ∷ []
+
+    begun_here : record_at beginning (length roles) ≡ alone
+    begun_here = get_or_push roles alone _ (length roles) refl
+
+    begun_off : (s : ℕ) → s < length roles → record_at beginning s ≡ record_at roles s
+    begun_off s l = grind (arith, places)
+
+    pub head_begun : head_at beginning (length roles) ≡ length role_of
+    head_begun = ap (λ v. v.head) begun_here
+
+    pub heads_begun : (s : ℕ) → s < length roles → head_at beginning s ≡ head_at roles s
+    heads_begun s l = ap (λ v. v.head) (begun_off s l)
+
+    pub begun : Recorded (role_of ++ length roles ∷ []) (roles ++ record { head = length role_of; size = 1 } ∷ [])
+    begun =
+        let r = length roles in
+        let long = longer r in
+        let count : length beginning ≡ r + 1 = length_push roles alone in
         record {
-          few = few;
-          packed = omega arith;
-          ranged = still_ranged (count + 1) (omega arith) (omega arith);
-          described = λ s l. elim (cases_lt s count) [
-            | inl b ↦ record {
-              node = omega (arith, heads' s b, (kept.described s b).node);
-              mate = ap role' (heads' s b) ∙ still_head s b;
-              lowest = λ k lt e. still_lowest s k b (omega (arith, heads' s b)) (λ d. absurd (omega arith)) e;
-              size = ap (λ v. v.size) (older s b) ∙ sizes s b (λ d. omega arith);
-            }
-            | inr h ↦
-                let e = newer s l h in
-                record {
-                  node = omega (arith, head_here s e);
-                  mate = ap role' (head_here s e) ∙ takes.here ∙ sym e;
-                  lowest = λ k lt d.
-                      let under : k < x = omega (arith, head_here s e) in
-                      omega (arith, takes.off k (λ c. omega arith), kept.ranged k (rest k (omega arith) (λ c. omega arith)));
-                  size = omega (arith, ap (λ t. (new t).size) e, ap (λ v. v.size) opens.here, alone, ap (λ t. count_below (members role' t) m) e);
-                }
+          few = omega (arith, long);
+          packed = omega (arith, long, count, was.packed);
+          ranged = λ x l. elim (cases_eq x (length role_of)) [
+            | inl e ↦ omega (arith, ap (table_of (next r)) e, of_next r, count)
+            | inr ne ↦ omega (arith, of_earlier r x (omega (arith, long)), was.ranged x (omega (arith, long)), count)
+          ];
+          described = λ s l. elim (cases_eq s r) [
+            | inl e ↦ rw e (record {
+              node = omega (arith, head_begun, long);
+              mate = ap (table_of (next r)) head_begun ∙ of_next r;
+              lowest = λ k under d. omega (arith, head_begun, of_earlier r k (omega (arith, head_begun)), was.ranged k (omega (arith, head_begun)));
+              size = omega (arith, ap (λ v. v.size) begun_here, one_more r, unused);
+            })
+            | inr ne ↦
+                let older : s < r = omega (arith, count) in
+                still r s older (record_at beginning s) (heads_begun s older)
+                (omega (arith, ap (λ v. v.size) (begun_off s older), (was.described s older).size, as_many r s ne))
+          ];
+          ordered = λ q s l k. elim (cases_eq s r) [
+            | inl e ↦ omega (arith, ap (head_at beginning) e, head_begun, heads_begun q (omega arith), (was.described q (omega arith)).node)
+            | inr ne ↦ omega (arith, heads_begun q (omega (arith, count)), heads_begun s (omega (arith, count)), was.ordered q s l (omega (arith, count)))
           ];
         }
-
-module _ (n : ℕ) (role role' : Table) (count : ℕ) (old new : ℕ → Role) (kept : Recorded n role count old) where
-  -- the next node joins role r
-  pub kept_joined : (r : ℕ) → n < 128 → r < count → Puts role role' n r → Puts old new r (grown (old r)) → Recorded (n + 1) role' count new
-  kept_joined r room known takes grows =
-      kept_known n role role' count old old new kept n r (n + 1) takes
-      (λ s l e. omega (arith, (kept.described s l).node)) (omega arith) (omega arith) (omega arith) (λ y l ne. omega arith) (λ s. refl)
-      (λ s l ne. (kept.described s l).size ∙ sym (next_out role role' n r takes s ne))
-      known (kept.described r known).node (omega (arith, (kept.described r known).size, next_in role role' n r takes)) grows
-
-  -- the next node is a role of its own
-  pub kept_begun : n < 128 → Puts role role' n count → Puts old new count (record { head = n; size = 1 }) → Recorded (n + 1) role' (count + 1) new
-  kept_begun room takes opens =
-      kept_fresh n role role' count old old new kept n count (n + 1) takes
-      (λ s l e. omega (arith, (kept.described s l).node)) (omega arith) (omega arith) (omega arith) (λ y l ne. omega arith) (λ s. refl)
-      (λ s l ne. (kept.described s l).size ∙ sym (next_out role role' n count takes s ne))
-      refl (omega (arith, kept.packed)) (omega (arith, unused n role role' count old old new kept, next_in role role' n count takes)) opens
-
-  -- node x, not the head of its role, takes role r
-  module _ (x r : ℕ) (node : x < n) (later : (old (role x)).head < x) (other : role x ≡ r → ⊥) (takes : Puts role role' x r) (mid : ℕ → Role) (shrinks : Puts old mid (role x) (shrunk (old (role x)))) where
-    apart_here : (s : ℕ) → s < count → (old s).head ≡ x → ⊥
-    apart_here = no_head n role count old kept.described x later
-
-    mid_sized : (s : ℕ) → s < count → (s ≡ r → ⊥) → (mid s).size ≡ count_below (members role' s) n
-    mid_sized s l ne =
-        elim (cases_eq s (role x)) [
-          | inl e ↦
-              let at : count_below (members role' s) n ≡ count_below (members role' (role x)) n = ap (λ t. count_below (members role' t) n) e in
-              omega (arith, ap (λ t. (mid t).size) e, ap (λ v. v.size) shrinks.here, (kept.described (role x) (kept.ranged x node)).size, moved_out role role' x r takes n node other)
-          | inr past ↦ omega (arith, ap (λ v. v.size) (shrinks.off s past), (kept.described s l).size, moved_past role role' x r takes n node other s ne past)
-        ]
-
-    mid_head : (s : ℕ) → (mid s).head ≡ (old s).head
-    mid_head = same_head old mid (role x) ((old (role x)).size - 1) shrinks
-
-    -- r was a role
-    pub kept_moved : r < count → (old r).head < x → Puts mid new r (grown (mid r)) → Recorded n role' count new
-    kept_moved known past grows =
-        kept_known n role role' count old mid new kept x r n takes apart_here node kept.few (omega arith) (λ y l ne. l) mid_head mid_sized
-        known past (omega (arith, ap (λ v. v.size) (shrinks.off r (λ d. other (sym d))), (kept.described r known).size, moved_in role role' x r takes n node other)) grows
-
-    -- r is the next role
-    pub kept_led : r ≡ count → count < n → Puts mid new r (record { head = x; size = 1 }) → Recorded n role' (count + 1) new
-    kept_led fresh room opens =
-        let none = unused n role role' count old mid new kept in
-        kept_fresh n role role' count old mid new kept x r n takes apart_here node kept.few (omega arith) (λ y l ne. l) mid_head mid_sized
-        fresh room (omega (arith, ap (λ t. count_below (members role t) n) fresh, none, moved_in role role' x r takes n node other)) opens

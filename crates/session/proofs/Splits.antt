@@ -1,117 +1,79 @@
--- What the nodes that leave a role do to the table. Assumes nothing.
-use Rattle.std.proofs.Common.{◌≡◌, ℕ, ◌+◌, ◌<◌, ◌≤◌, Bool, true, false, not, List, length, sym, refl, ap, inl, inr, ◌∙◌, arith}
-use Rattle.std.proofs.lemmas.Bool.Decides.{nat_tests}
-use Rattle.std.proofs.lemmas.Bool.{cases_eq, cases_lt, eq-eqb}
-use Rattle.network.proofs.Counting.{count_below_one}
+-- What the nodes that leave a role do to the table.
+use Rattle.std.proofs.Common.{◌≡◌, ℕ, ◌+◌, ◌<◌, ◌≤◌, Bool, true, false, cond, List, sym, refl, ap, ◌∙◌, inl, inr, arith}
+use Rattle.std.proofs.lemmas.Bool.{cases_Bool, eq-eqb}
 use Rattle.network.specs.Meaning.{Meaning}
+use Rattle.network.proofs.Counting.{count_below_one}
 use Rattle.measure.specs.Measures.{Operations, Laws}
 use Rattle.equivalence.specs.Totals.{total}
-use Rattle.equivalence.specs.Splitting.{Even, Split, members}
-use Rattle.equivalence.proofs.Parting.{split_parted}
-use Rattle.session.specs.Roles.{head_at, record_at}
-use Rattle.session.specs.Leaving.{apart, parted}
+use Rattle.equivalence.specs.Regular.{Even, members}
+use Rattle.equivalence.specs.Heads.{head_of}
+use Rattle.equivalence.specs.Splitting.{leaves}
+use Rattle.equivalence.specs.Vetted.{table_of}
+use Rattle.equivalence.proofs.Heads.{head_same}
+use Rattle.equivalence.proofs.Splitting.{even_none, leaver}
 use Rattle.session.specs.Steps.{InTwo}
 use Rattle.session.specs.States.{state_with}
-use Rattle.session.specs.Tables.{role_in}
-use Rattle.session.proofs.Keeping.{numbered}
-use Rattle.equivalence.specs.Vetted.{table_of}
+use Rattle.session.specs.Tables.{count_in, head_in, nodes_in, record_in, role_in}
 use Rattle.session.specs.declared.table.Table.{Table as RoleTable}
+use Rattle.session.proofs.Counted.{head_own}
 
-module _ {V : Type 0} (o : Operations V) (laws : Laws o) (m : Meaning) (old : RoleTable) (fits : length old.role_of.items ≡ m.nodes) (r c : ℕ) (part : r < length old.roles.items) where
-  abbrev role : ℕ → ℕ
-  role = role_in old
-
-  abbrev toward : ℕ → Bool
-  toward = members role c
-
-  abbrev head : ℕ
-  head = head_at old.roles.items r
-
-  -- where none leaves, all have the total of the head
-  pub even_none : ((k : ℕ) → k < m.nodes → apart o m role r head toward k ≡ false) → Even o m role r toward
-  even_none none x y hx hy ex ey =
-      let told : (k : ℕ) → k < m.nodes → role k ≡ r → total o m k toward ≡ total o m head toward =
-      λ k l e. (laws.sameness (total o m k toward) (total o m head toward)).0 (grind (arith, nat_tests, none k l, e)) in
-      told x hx ex ∙ sym (told y hy ey)
-
+module _ {V : Type 0} (o : Operations V) (laws : Laws o) (m : Meaning) (t : RoleTable) (fits : nodes_in t ≡ m.nodes) where
   -- a single node has no other to differ from
-  pub even_single : (record_at old.roles.items r).size ≤ 1 → Even o m role r toward
-  even_single single x y hx hy ex ey =
-      ap (λ k. total o m k toward)
-      (count_below_one (members role r) (length old.role_of.items) x y (omega (arith, fits)) (omega (arith, fits)) (eq-eqb (role x) r ex) (eq-eqb (role y) r ey) (omega (arith, (old.kept.described r part).size)))
+  pub even_single : (r : ℕ) (among : ℕ → Bool) → r < count_in t → (record_in t r).size ≤ 1 → Even o m (role_in t) r among
+  even_single r among known single x y hx hy ex ey =
+      ap (λ k. total o m k among)
+      (count_below_one (members (role_in t) r) (nodes_in t) x y (omega (arith, fits)) (omega (arith, fits)) (eq-eqb (role_in t x) r ex) (eq-eqb (role_in t y) r ey) (omega (arith, (t.recorded.described r known).size)))
 
-  module _ (known : c < length old.roles.items) (new : RoleTable) (leaves : ℕ → Bool) (x : ℕ)
-      (flagged : (k : ℕ) → k < m.nodes → leaves k ≡ apart o m role r head toward k)
-      (node : x < length old.role_of.items) (goes : leaves x ≡ true)
-      (moved : (k : ℕ) → k < length old.role_of.items → role_in new k ≡ parted role leaves (length old.roles.items) k) where
-    abbrev fresh : ℕ
-    fresh = length old.roles.items
+  pub of_head : (r : ℕ) → r < count_in t → (head_in t r < m.nodes) × (head_of (role_in t) (head_in t r) ≡ head_in t r)
+  of_head r known = (omega (arith, fits, (t.recorded.described r known).node), head_own t r known)
 
-    -- a node that leaves is of role r
-    leaver : role x ≡ r
-    leaver = grind (arith, nat_tests, flagged x (omega (arith, fits)), goes)
+  module _
+      (part toward : ℕ)
+      (of_part : (part < m.nodes) × (head_of (role_in t) part ≡ part))
+      (of_toward : (toward < m.nodes) × (head_of (role_in t) toward ≡ toward))
+      (flags : ℕ → Bool)
+      (flagged : (x : ℕ) → x < m.nodes → flags x ≡ leaves o m (role_in t) part (members (role_in t) (role_in t toward)) x) where
+    abbrev among : ℕ → Bool
+    among = members (role_in t) (role_in t toward)
 
-    split_leaving : Split o m role (role_in new) r c fresh
-    split_leaving =
-        let test : ℕ → Bool = λ k. not (o.same (total o m k toward) (total o m head toward)) in
-        let inside : (k : ℕ) → k < m.nodes → k < length old.role_of.items = λ k l. omega (arith, fits) in
-        split_parted o laws m role (role_in new) r c fresh head x test
-        (head_at old.roles.items c, omega (arith, fits, (old.kept.described c known).node), (old.kept.described c known).mate)
-        (λ k l e. omega (arith, old.kept.ranged k (inside k l)))
-        (omega (arith, fits, (old.kept.described r part).node)) (old.kept.described r part).mate
-        (omega (arith, fits)) leaver (grind (arith, nat_tests, flagged x (omega (arith, fits)), goes))
-        (λ k l e. refl)
-        (λ k l. grind (arith, nat_tests, moved k (inside k l), flagged k l))
+    pub none_leaves : ((x : ℕ) → x < nodes_in t → flags x ≡ false) → Even o m (role_in t) (role_in t part) among
+    none_leaves none = even_none o laws m (role_in t) part among (λ x l. sym (flagged x l) ∙ none x (omega (arith, fits)))
 
-    -- the head of role r stays
-    head_stays : role_in new head ≡ r
-    head_stays =
-        let told = old.kept.described r part in
-        let same : o.same (total o m head toward) (total o m head toward) ≡ true = (laws.sameness (total o m head toward) (total o m head toward)).1 refl in
-        let stays : leaves head ≡ false = grind (arith, nat_tests, flagged head (omega (arith, fits, told.node)), same) in
-        moved head told.node ∙ grind (arith, nat_tests, stays, told.mate)
-
-    heads_stay : (q : ℕ) → q < fresh → role_in new (head_at old.roles.items q) ≡ q
-    heads_stay q l =
-        let told = old.kept.described q l in
-        elim (cases_eq q r) [
-          | inl same ↦ rw same head_stays
-          | inr other ↦ split_leaving.others (head_at old.roles.items q) (omega (arith, fits, told.node)) (λ e. other (sym told.mate ∙ e)) ∙ told.mate
+    -- part's head stays, and other heads are of other roles
+    pub heads_stay : (r : ℕ) → r < count_in t → flags (head_in t r) ≡ false
+    heads_stay r known =
+        let h = head_in t r in
+        elim (cases_Bool (flags h)) [
+          | inl e ↦
+              let node : h < m.nodes = omega (arith, fits, (t.recorded.described r known).node) in
+              let out = leaver o laws m (role_in t) part among h (sym (flagged h node) ∙ e) in
+              absurd (out.1 (ap (λ k. total o m k among) (sym (head_own t r known) ∙ head_same (role_in t) h part out.0 ∙ of_part.1)))
+          | inr e ↦ e
         ]
 
-    heads_same : length new.role_of.items ≡ length old.role_of.items → fresh < length new.roles.items → (q : ℕ) → q < fresh → head_at new.roles.items q ≡ head_at old.roles.items q
-    heads_same still more q l =
-        let a = new.kept.described q (omega arith) in
-        let b = old.kept.described q l in
-        let h = head_at old.roles.items q in
-        let k = head_at new.roles.items q in
-        elim (cases_lt k h) [
-          | inl under ↦
-              elim (cases_eq (role_in old k) r) [
-                | inl of_r ↦
-                    elim (split_leaving.parts k (omega (arith, fits, b.node, under)) of_r) [
-                      | inl is ↦ absurd (b.lowest k under (of_r ∙ sym is ∙ a.mate))
-                      | inr is ↦ absurd (omega (arith, is, a.mate, l))
-                    ]
-                | inr other ↦ absurd (b.lowest k under (sym (split_leaving.others k (omega (arith, fits, b.node, under)) other) ∙ a.mate))
-              ]
-          | inr past ↦
-              elim (cases_lt h k) [
-                | inl above ↦ absurd (a.lowest h above (heads_stay q l))
-                | inr same ↦ omega (arith, past, same)
-              ]
-        ]
-
-    pub two_leaving : length new.role_of.items ≡ length old.role_of.items → length new.roles.items ≡ fresh + 1 → new.splits ≡ old.splits + 1 → new.colours ≡ old.colours → InTwo o (state_with m old) (state_with m new) r c fresh
-    two_leaving still one_more count same =
+    pub in_two :
+        (fresh : ℕ)
+        → fresh < nodes_in t
+        → flags fresh ≡ true
+        → ((x : ℕ) → x < fresh → flags x ≡ false)
+        → (new : RoleTable)
+        → ((x : ℕ) → x < nodes_in t → head_of (role_in new) x ≡ cond (flags x) fresh (head_of (role_in t) x))
+        → new.colours ≡ t.colours
+        → new.splits ≡ t.splits + 1
+        → InTwo o (state_with m t) (state_with m new) part toward fresh
+    in_two fresh node goes lowest new heads colours splits =
         record {
           network = refl;
-          colours = ap (λ (cs : List ℕ). table_of cs) same;
-          part = omega (arith, numbered old m.nodes fits);
-          toward = omega (arith, numbered old m.nodes fits);
-          next = numbered old m.nodes fits;
-          split = split_leaving;
-          roles = λ q l. (omega (arith, l, numbered old m.nodes fits, numbered new m.nodes (still ∙ fits), one_more), heads_same still (omega (arith, one_more)) q (omega (arith, l, numbered old m.nodes fits)));
-          more = omega (arith, numbered old m.nodes fits, numbered new m.nodes (still ∙ fits), one_more);
-          count = count;
+          colours = ap (λ (cs : List ℕ). table_of cs) colours;
+          split = record {
+            part_node = of_part.0;
+            part_head = of_part.1;
+            toward_node = of_toward.0;
+            toward_head = of_toward.1;
+            fresh_node = omega (arith, fits, node);
+            fresh_leaves = sym (flagged fresh (omega (arith, fits, node))) ∙ goes;
+            fresh_lowest = λ x l. sym (flagged x (omega (arith, fits, node, l))) ∙ lowest x l;
+            heads = λ x l. heads x (omega (arith, fits)) ∙ ap (λ b. cond b fresh (head_of (role_in t) x)) (flagged x l);
+          };
+          count = splits;
         }

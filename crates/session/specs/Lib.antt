@@ -7,6 +7,5 @@ pub mod Tellings
 pub mod Questions
 pub mod OpenSessions
 pub mod SettledSessions
-pub mod Leaving
 pub mod Marks
 pub mod Faults

@@ -1,19 +1,21 @@
--- What a session holds, as its calls speak of it. Assumes nothing.
+-- What a session holds, as its calls speak of it.
 --
 --   State          ties and colours, the role of each node in order, the head of each role, and how many roles were split
 --   role           the role of a node
 --   role_count     how many roles there are
+--   classes        the starting classes
 --   class_count    how many starting classes there are
 --   record_of      the head and the size of a role
 --   state_with     the state of ties and a table of role records
 --   IsSound        what every state of a session is
---   KeepsRoles     each role of the old state keeps its number and its head in the new one
+--   KeepsHeads     every head of the old state is a head of the new one
 use Rattle.std.specs.Prelude.{◌≡◌, ℕ, ◌+◌, ◌<◌, ◌≤◌, List, length}
 use Rattle.network.specs.Meaning.{Meaning, count_below}
 use Rattle.measure.specs.Measures.{Operations}
-use Rattle.equivalence.specs.Regular.{Table}
-use Rattle.equivalence.specs.Coarsest.{Between, roles}
-use Rattle.equivalence.specs.Splitting.{members}
+use Rattle.equivalence.specs.Regular.{Table, members}
+use Rattle.equivalence.specs.Heads.{head_of, roles}
+use Rattle.equivalence.specs.Starting.{starting_classes}
+use Rattle.equivalence.specs.Coarsest.{Covers}
 use Rattle.equivalence.specs.Vetted.{table_of}
 use Rattle.session.specs.Roles.{Described}
 use Rattle.session.specs.Tables.{class_in, head_in}
@@ -33,8 +35,11 @@ role s = table_of s.table
 abbrev pub role_count : State → ℕ
 role_count s = roles (role s) s.network.nodes
 
+abbrev pub classes : State → Table
+classes s = starting_classes s.network s.colours
+
 abbrev pub class_count : State → ℕ
-class_count s = roles s.colours s.network.nodes
+class_count s = roles (classes s) s.network.nodes
 
 abbrev pub record_of : State → ℕ → Role
 record_of s r = record { head = s.head r; size = count_below (members (role s) r) s.network.nodes }
@@ -49,10 +54,10 @@ pub record IsSound {V : Type 0} (o : Operations V) (s : State) : Type 0 where
   -- roles are numbered from 0, each has a node, and its head is the lowest
   pub ranged : (x : ℕ) → x < s.network.nodes → role s x < role_count s
   pub described : (r : ℕ) → r < role_count s → Described s.network.nodes (role s) r (record_of s r)
-  -- within the starting classes, and coarser than every regular table within them
-  pub between : Between o s.network s.colours (role s)
+  -- within the starting classes, and every regular table within them refines it
+  pub covers : Covers o s.network (classes s) (role s)
   -- splits are roles minus starting classes
   pub counted : s.splits + class_count s ≡ role_count s
 
-abbrev pub KeepsRoles : State → State → Type 0
-KeepsRoles old new = (r : ℕ) → r < role_count old → (r < role_count new) × (new.head r ≡ old.head r)
+abbrev pub KeepsHeads : State → State → Type 0
+KeepsHeads old new = (x : ℕ) → x < old.network.nodes → head_of (role old) x ≡ x → head_of (role new) x ≡ x

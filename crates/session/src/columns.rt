@@ -80,7 +80,7 @@ impl Columns for Table {
 
     ghost columns = { λ t. each_role (role_in t) (head_in t) };
 
-    ghost known = { λ t. t.kept.ranged };
+    ghost known = { λ t. t.recorded.ranged };
 
     fn width(&self) -> usize {
         self.count()

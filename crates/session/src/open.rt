@@ -32,12 +32,12 @@ impl<N: Editable, M: Measure> Open<N, M> {
     ghost use Rattle.session.specs.OpenSessions.{state_of, parts_of};
 
     /// Every colour is 0, and the table is at the starting classes.
-    #[tactic(auto, using(crate::proofs::Keeping::sound_begun))]
+    #[tactic(auto, using(crate::proofs::Keeping::sound_begun, crate::proofs::Keeping::begun))]
     pub fn new(network: N, measure: M) -> Self
         ensures begun { Begun (N.Readable.meaning network) (λ _. 0) (state_of result) }
         ensures parts { parts_of result ≡ (network, measure) }
     {
-        let table = Table::new(network.nodes());
+        let table = Table::new(&network);
         Open {
             network,
             measure,
@@ -47,7 +47,7 @@ impl<N: Editable, M: Measure> Open<N, M> {
 
     /// The tie byte from i to j becomes b, by the network's own put. Accepted, the table is back at
     /// the starting classes, also where nothing is altered. Refused, all is as it was.
-    #[tactic(auto, using(crate::proofs::Keeping::sound_begun))]
+    #[tactic(auto, using(crate::proofs::Keeping::sound_begun, crate::proofs::Keeping::begun))]
     pub fn put(&mut self, i: usize, j: usize, b: u8) -> Result<(), network::faults::Fault>
         ensures answer { result ≡ put_answer (state_of self.old).network i j b }
         ensures edited { let s = state_of self.old in
@@ -55,13 +55,14 @@ impl<N: Editable, M: Measure> Open<N, M> {
         ensures measure { (parts_of self.new).1 ≡ (parts_of self.old).1 }
     {
         self.network.put(i, j, b)?;
-        self.table.restart();
+        self.table.restart(&self.network);
         Ok(())
     }
 
     /// Node i becomes of colour c. Accepted, the table is back at the starting classes, also where
     /// nothing is altered. Refused, all is as it was.
-    #[tactic(auto, using(crate::proofs::Keeping::sound_begun, crate::proofs::Keeping::coloured))]
+    #[tactic(auto, using(crate::proofs::Keeping::sound_begun, crate::proofs::Keeping::begun,
+        crate::proofs::Keeping::coloured))]
     pub fn colour(&mut self, i: usize, c: u8) -> Result<(), Fault>
         ensures answer { result ≡ colour_answer (state_of self.old).network.nodes i }
         ensures edited { let s = state_of self.old in
@@ -72,7 +73,7 @@ impl<N: Editable, M: Measure> Open<N, M> {
         if i >= self.table.nodes() {
             return Err(Fault::Node);
         }
-        self.table.colour(i, c);
+        self.table.colour(&self.network, i, c);
         Ok(())
     }
 

@@ -5,7 +5,7 @@ ghost use Rattle.equivalence.specs.Coarsest.{Coarsest};
 ghost use Rattle.session.specs.OpenSessions.{state_of, parts_of};
 ghost use Rattle.session.specs.Roles.{Described};
 ghost use Rattle.session.specs.Sessions.{Ended};
-ghost use Rattle.session.specs.States.{IsSound, class_count, role, role_count};
+ghost use Rattle.session.specs.States.{IsSound, class_count, classes, role, role_count};
 ghost use Rattle.session.specs.Tellings.{record_answer, role_answer};
 
 use super::faults::Fault;
@@ -87,7 +87,7 @@ impl<N: Editable, M: Measure> Settled<N, M> {
         ensures table { result.now ≡ (settled_state self.now).table }
         ensures sound { IsSound M.Measure.ops (settled_state self.now) }
         ensures coarsest { let s = settled_state self.now in
-            Coarsest M.Measure.ops s.network s.colours (role s) }
+            Coarsest M.Measure.ops s.network (classes s) (role s) }
     {
         self.session.table()
     }

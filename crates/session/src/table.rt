@@ -1,15 +1,15 @@
 // The table of roles.
-ghost use Rattle.std.specs.Prelude.{◌≡◌, ◌<◌, length, filter};
+ghost use Rattle.std.specs.Prelude.{◌≡◌, ◌<◌, filter};
 ghost use Rattle.std.specs.List.{range_with_len};
-ghost use Rattle.arrayvec.specs.ArrayVec.{array_vec_len};
-ghost use Rattle.equivalence.specs.Splitting.{members};
-ghost use Rattle.equivalence.specs.Vetted.{table_of};
-ghost use Rattle.session.specs.Roles.{Kept, record_at};
+ghost use Rattle.equivalence.specs.Regular.{members};
+ghost use Rattle.session.specs.Roles.{Recorded};
 
 use super::role::Role;
 use arrayvec::ArrayVec;
 
-// From nodes and their colours to the starting classes.
+// From the heads of the nodes.
+mod building;
+// From the network and its colours.
 mod starting;
 // One role in two.
 mod splitting;
@@ -23,18 +23,20 @@ pub(crate) struct Table {
     roles: ArrayVec<Role, 128>,
     // How many roles were split since the starting classes.
     splits: usize,
-    ghost kept: { Kept role_of.items roles.items },
+    ghost recorded: { Recorded role_of.items roles.items },
 }
 
 impl Table {
+    ghost use Rattle.session.specs.Tables.{nodes_in, class_in, role_in, count_in, record_in};
+
     pub(crate) fn nodes(&self) -> usize
-        ensures { result ≡ length self.now.role_of.items }
+        ensures { result ≡ nodes_in self.now }
     {
         self.role_of.len()
     }
 
     pub(crate) fn count(&self) -> usize
-        ensures { result ≡ array_vec_len self.now.roles }
+        ensures { result ≡ count_in self.now }
     {
         self.roles.len()
     }
@@ -49,7 +51,8 @@ impl Table {
     // The nodes of role r, in order.
     #[tactic(auto, using(crate::proofs::Ranges::filter_in, crate::proofs::Ranges::filter_out))]
     pub(crate) fn members(&self, r: usize) -> ArrayVec<u8, 128>
-        ensures { result.items ≡ filter (members (table_of self.now.role_of.items) r) (range_with_len 0 (length self.now.role_of.items)) }
+        ensures { let nodes = range_with_len 0 (nodes_in self.now) in
+            result.items ≡ filter (members (role_in self.now) r) nodes }
     {
         let mut nodes = ArrayVec::new();
         for (y, &role) in self.role_of.iter().enumerate() {
@@ -67,22 +70,22 @@ impl Table {
     }
 
     pub(crate) fn role_of(&self, x: usize) -> usize
-        requires { x < length self.now.role_of.items }
-        ensures { result ≡ table_of self.now.role_of.items x }
+        requires { x < nodes_in self.now }
+        ensures { result ≡ role_in self.now x }
     {
         usize::from(self.role_of[x])
     }
 
     pub(crate) fn colour_of(&self, x: usize) -> u8
         requires { x < 128 }
-        ensures { result ≡ table_of self.now.colours x }
+        ensures { result ≡ class_in self.now x }
     {
         self.colours[x]
     }
 
     pub(crate) fn role(&self, r: usize) -> Role
-        requires { r < array_vec_len self.now.roles }
-        ensures { result ≡ record_at self.now.roles.items r }
+        requires { r < count_in self.now }
+        ensures { result ≡ record_in self.now r }
     {
         self.roles[r]
     }

@@ -1,6 +1,7 @@
-// A value of bundles: bit t of `members` says that bundle t is in the set.
+// A value of bundles.
 ghost use Rattle.std.specs.Prelude.{◌^◌, ◌<◌};
 
+/// Bit t of `members` says that bundle t is in the set.
 #[derive(Clone, Copy, PartialEq, Eq, Debug)]
 pub struct BundleSet {
     pub members: u64,

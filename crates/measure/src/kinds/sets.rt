@@ -1,7 +1,7 @@
-// A value of kinds: bit k of `out` says that a tie of kind k goes out, bit k of `into` that one comes in.
-// Not one type with tally's counts, which has the same fields: a measure has a kind of value of its own, so that sets and counts cannot be mixed up.
+// A value of kinds.
 ghost use Rattle.std.specs.Prelude.{◌<◌};
 
+/// Bit k of `out` says that a tie of kind k goes out, bit k of `into` that one comes in.
 #[derive(Clone, Copy, PartialEq, Eq, Debug)]
 pub struct KindSets {
     pub out: u8,

@@ -1,6 +1,7 @@
-// A value of tally: how many ties go out, and how many come in.
+// A value of tally.
 ghost use Rattle.std.specs.Prelude.{◌≤◌};
 
+/// How many ties go out, and how many come in, each at most 128.
 #[derive(Clone, Copy, PartialEq, Eq, Debug)]
 pub struct Counts {
     pub out: u8,

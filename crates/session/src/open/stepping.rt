@@ -2,82 +2,86 @@
 // smaller-half rule: a measure has no subtraction.
 // A step reads each ordered pair of nodes at most four times, and the bytes of the table a few
 // times for each pair of roles.
-ghost use Rattle.std.specs.Prelude.{◌≡◌, ◌↔◌, ℕ, true, false, ◌<◌, MatchOption};
-ghost use Rattle.arrayvec.specs.ArrayVec.{array_vec_len};
-ghost use Rattle.equivalence.specs.Regular.{Balanced, Regular};
-ghost use Rattle.equivalence.specs.Splitting.{Even, members};
-ghost use Rattle.session.specs.Leaving.{flag, apart};
+ghost use Rattle.std.specs.Prelude.{◌≡◌, ◌↔◌, ℕ, Bool, ◌<◌, None, MatchOption, filter};
+ghost use Rattle.std.specs.List.{All, range_with_len};
+ghost use Rattle.equivalence.specs.Heads.{head_of};
+ghost use Rattle.equivalence.specs.Regular.{Balanced, Even, Regular, members};
+ghost use Rattle.equivalence.specs.Splitting.{SplitLaw, leaves};
+ghost use Rattle.equivalence.specs.Totals.{flag};
 ghost use Rattle.session.specs.OpenSessions.{state_of, parts_of};
 ghost use Rattle.session.specs.States.{role};
 ghost use Rattle.session.specs.Steps.{InTwo, Stepped};
+ghost use Rattle.session.specs.Tables.{count_in};
 ghost use Rattle.session.specs.declared.step.Step.{Step};
 
 use super::super::step::Step;
 use super::Open;
-use equivalence::totals::total_over;
+use equivalence::leaving::leaving;
 use measure::interface::Measure;
 use network::interface::Editable;
 
 impl<N: Editable, M: Measure> Open<N, M> {
-    // The nodes of role r whose total toward role c is not that of the head of r.
-    fn leaving(&self, r: usize, c: usize) -> [bool; 128]
-        requires { r < array_vec_len self.now.table.roles }
+    // Which nodes leave the role of `part`, by totals toward the listed nodes.
+    fn leaving(&self, part: usize, nodes: &[u8]) -> [bool; 128]
+        requires node { part < (state_of self.now).network.nodes }
+        requires nodes { let n = (state_of self.now).network.nodes in All (λ y. y < n) nodes.now }
         ensures { let s = state_of self.now in
-            let toward = members (role s) c in
-            (x : ℕ) → x < s.network.nodes
-            → flag result x ≡ apart M.Measure.ops s.network (role s) r (s.head r) toward x }
+            (among : ℕ → Bool)
+            → nodes.now ≡ filter among (range_with_len 0 s.network.nodes)
+            → (x : ℕ) → x < s.network.nodes
+            → flag result x ≡ leaves M.Measure.ops s.network (role s) part among x }
     {
-        let nodes = self.table.members(c);
-        let head = self.table.role(r).head;
-        let total = total_over(&self.network, &self.measure, head, &nodes);
-        let mut leaving = [false; 128];
-        for (x, leaves) in leaving[..self.table.nodes()].iter_mut().enumerate() {
-            *leaves = self.table.role_of(x) == r
-                && !self
-                    .measure
-                    .same(total_over(&self.network, &self.measure, x, &nodes), total);
-        }
-        leaving
+        leaving(&self.network, &self.measure, self.table.roles_of(), part, nodes)
     }
 
-    // Splits role r by totals toward role c, where they differ in it.
-    #[tactic(auto, using(crate::proofs::Splits::even_none))]
-    fn split_role(&mut self, r: usize, c: usize) -> bool
-        requires part { r < array_vec_len self.old.table.roles }
-        requires toward { c < array_vec_len self.old.table.roles }
-        ensures even { let s = state_of self.old in
-            result ≡ false → Even M.Measure.ops s.network (role s) r (members (role s) c) }
-        ensures kept { result ≡ false → self.new ≡ self.old }
-        ensures split { let fresh = array_vec_len self.old.table.roles in
-            result ≡ true
-            → InTwo M.Measure.ops (state_of self.old) (state_of self.new) r c fresh }
+    // Splits the role of head `part` by totals toward that of head `toward`, whose nodes are
+    // listed, where they differ in it. Gives the head of the new role.
+    fn split_role(&mut self, part: usize, toward: usize, nodes: &[u8]) -> Option<usize>
+        requires part { let s = state_of self.old in
+            (part < s.network.nodes) × (head_of (role s) part ≡ part) }
+        requires toward { let s = state_of self.old in
+            (toward < s.network.nodes) × (head_of (role s) toward ≡ toward) }
+        requires listed { let s = state_of self.old in
+            let among = members (role s) (role s toward) in
+            nodes.now ≡ filter among (range_with_len 0 s.network.nodes) }
+        ensures search { let s = state_of self.old in
+            let among = members (role s) (role s toward) in
+            MatchOption result
+            (Even M.Measure.ops s.network (role s) (role s part) among)
+            (λ fresh. InTwo M.Measure.ops s (state_of self.new) part toward fresh) }
+        ensures unaltered { result ≡ None → self.new ≡ self.old }
         ensures parts { parts_of self.new ≡ parts_of self.old }
     {
-        let leaving = self.leaving(r, c);
+        let leaving = self.leaving(part, nodes);
         match self.table.lowest(&leaving) {
-            None => false,
-            Some(x) => {
-                self.table.split(x, &leaving);
-                true
+            None => None,
+            Some(fresh) => {
+                self.table.split(fresh, &leaving);
+                Some(fresh)
             }
         }
     }
 
-    // Splits a role by totals toward role c, where one has nodes that differ in it. Gives the role
-    // that was split.
-    fn split_toward(&mut self, c: usize) -> Option<usize>
-        requires { c < array_vec_len self.old.table.roles }
+    // Splits a role by totals toward role c, where one has nodes that differ in it. Gives the heads
+    // of what stays and of the new role.
+    fn split_toward(&mut self, c: usize) -> Option<(usize, usize)>
+        requires { c < count_in self.old.table }
         ensures search { let s = state_of self.old in
-            let fresh = array_vec_len self.old.table.roles in
             MatchOption result
-            (Balanced M.Measure.ops s.network (role s) (members (role s) c) × (self.new ≡ self.old))
-            (λ part. InTwo M.Measure.ops s (state_of self.new) part c fresh) }
+            (Balanced M.Measure.ops s.network (role s) (members (role s) c))
+            (λ two. InTwo M.Measure.ops s (state_of self.new) two.0 (s.head c) two.1) }
+        ensures unaltered { result ≡ None → self.new ≡ self.old }
         ensures parts { parts_of self.new ≡ parts_of self.old }
     {
+        let toward = self.table.role(c).head;
+        let nodes = self.table.members(c);
         for r in 0..self.table.count() {
+            let part = self.table.role(r);
             // A single node has no other to differ from.
-            if self.table.role(r).size > 1 && self.split_role(r, c) {
-                return Some(r);
+            if part.size > 1 {
+                if let Some(fresh) = self.split_role(part.head, toward, &nodes) {
+                    return Some((part.head, fresh));
+                }
             }
         }
         None
@@ -88,11 +92,12 @@ impl<N: Editable, M: Measure> Open<N, M> {
         ensures stable { let s = state_of self.old in
             (result ≡ Step.Stable) ↔ Regular M.Measure.ops s.network (role s) }
         ensures stepped { Stepped M.Measure.ops (state_of self.old) (state_of self.new) result }
+        ensures law { SplitLaw M.Measure.ops }
         ensures parts { parts_of self.new ≡ parts_of self.old }
     {
-        let fresh = self.table.count();
-        for toward in 0..fresh {
-            if let Some(part) = self.split_toward(toward) {
+        for c in 0..self.table.count() {
+            let toward = self.table.role(c).head;
+            if let Some((part, fresh)) = self.split_toward(c) {
                 return Step::Split {
                     part,
                     toward,

@@ -1,9 +1,5 @@
-use Rattle.std.proofs.Common.{◌∙◌}
 use Rattle.session.proofs.Keeping.{sound_begun}
 use Rattle.session.proofs.open.Open.new.Goals as goal
 
 pub invariant_of-result : goal.invariant_of-result
-invariant_of-result g c =
-    let made = c.new-table.ensures in
-    let value = c.nodes.ensures.value in
-    record { sound = sound_begun c.new-table.result g.M.Measure.ops (g.N.Readable.meaning c.args.network) (made.nodes ∙ value) (rw value at made.start) made.splits }
+invariant_of-result g c = record { sound = sound_begun c.new-table.result g.M.Measure.ops (g.N.Readable.meaning c.args.network) c.new-table.ensures.start }

@@ -1,11 +1,11 @@
 use Rattle.std.proofs.Common.{◌≡◌, ◌-◌}
 use Rattle.session.specs.OpenSessions.{state_of, parts_of}
-use Rattle.session.specs.States.{KeepsRoles, role_count}
+use Rattle.session.specs.States.{KeepsHeads, role_count}
 use Rattle.session.proofs.open.Open.settle.Given as goal
 
--- ties, measure and colours are as they were, and roles keep their numbers and heads
+-- ties, measure, colours and heads are as they were
 abbrev pub invariant-loop : goal.invariant-loop
-invariant-loop g l = (parts_of l.self ≡ parts_of l.fn.self) × ((state_of l.self).colours ≡ (state_of l.fn.self).colours) × KeepsRoles (state_of l.fn.self) (state_of l.self)
+invariant-loop g l = (parts_of l.self ≡ parts_of l.fn.self) × ((state_of l.self).colours ≡ (state_of l.fn.self).colours) × KeepsHeads (state_of l.fn.self) (state_of l.self)
 
 -- each split adds a role, and there are no more roles than nodes
 abbrev pub decreases-loop : goal.decreases-loop

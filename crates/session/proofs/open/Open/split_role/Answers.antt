@@ -1,30 +1,48 @@
-use Rattle.std.proofs.Common.{◌∙◌, length, arith}
-use Rattle.session.specs.Leaving.{flag}
+use Rattle.std.proofs.Common.{◌≡◌, ◌∙◌, ℕ, Bool, ◌<◌, arith}
+use Rattle.equivalence.specs.Regular.{members}
+use Rattle.equivalence.specs.Splitting.{leaves}
+use Rattle.equivalence.specs.Totals.{flag}
+use Rattle.equivalence.proofs.Gathering.{filtered_below}
 use Rattle.session.specs.States.{state_with}
 use Rattle.session.specs.Steps.{InTwo}
+use Rattle.session.specs.Tables.{role_in}
 use Rattle.session.proofs.Keeping.{numbered, sound_split}
-use Rattle.session.proofs.Splits.{two_leaving}
+use Rattle.session.proofs.Splits.{none_leaves, heads_stay, in_two}
 use Rattle.session.proofs.open.Open.split_role.Given.{Over}
 use Rattle.session.proofs.open.Open.split_role.Goals as goal
+
+pub returns-in-None-clause-search : goal.returns-in-None-clause-search
+returns-in-None-clause-search g c =
+    let s = c.args.self.now in
+    none_leaves g.M.Measure.ops g.met.M.Measure.lawful (g.N.Readable.meaning s.network) s.table s.sound.entries c.args.part c.args.toward c.requires.part c.requires.toward (flag c.leaving-leaving.result) (c.leaving-leaving.ensures _ c.requires.listed) c.in-None.ensures
+
+pub split-requires-clause-stay : goal.split-requires-clause-stay
+split-requires-clause-stay g c =
+    let s = c.args.self.now in
+    heads_stay g.M.Measure.ops g.met.M.Measure.lawful (g.N.Readable.meaning s.network) s.table s.sound.entries c.args.part c.args.toward c.requires.part c.requires.toward (flag c.leaving-leaving.result) (c.leaving-leaving.ensures _ c.requires.listed)
 
 -- there are no more splits than nodes
 pub split-requires-clause-few : goal.split-requires-clause-few
 split-requires-clause-few g c =
     let s = c.args.self.now in
-    omega (arith, s.sound.counted, numbered s.table (g.N.Readable.meaning s.network).nodes s.sound.entries, s.table.kept.packed, s.table.kept.few)
-
-two : (g : Over) (c : goal.After-split g) → (let m = g.N.Readable.meaning c.args.self.now.network in InTwo g.M.Measure.ops (state_with m c.args.self.now.table) (state_with m c.split.new.self) c.args.r c.args.c (length c.args.self.now.table.roles.items))
-two g c =
-    let s = c.args.self.now in
-    let goes = c.in-Some.ensures in
-    let did = c.split.ensures in
-    two_leaving g.M.Measure.ops g.met.M.Measure.lawful (g.N.Readable.meaning s.network) s.table s.sound.entries c.args.r c.args.c c.requires.part c.requires.toward c.split.new.self (flag c.leaving-leaving.result) c.in-Some.x c.leaving-leaving.ensures goes.0 goes.1 did.table did.nodes did.count did.splits did.colours
+    omega (arith, s.sound.counted, numbered s.table (g.N.Readable.meaning s.network).nodes s.sound.entries, s.table.recorded.packed, s.table.recorded.few)
 
 pub invariant_of-self : goal.invariant_of-self
 invariant_of-self g c =
     let s = c.args.self.now in
-    let m = g.N.Readable.meaning s.network in
-    record { sound = sound_split c.split.new.self g.M.Measure.ops m (c.split.ensures.nodes ∙ s.sound.entries) g.met.M.Measure.lawful s.table c.args.r c.args.c (length s.table.roles.items) s.sound (two g c) }
+    let goes = c.in-Some.ensures in
+    record { sound = sound_split c.split.new.self g.M.Measure.ops (g.N.Readable.meaning s.network) g.met.M.Measure.lawful s.table c.args.part c.args.toward c.in-Some.fresh (c.split.ensures.nodes ∙ s.sound.entries) s.sound
+    (in_two g.M.Measure.ops g.met.M.Measure.lawful (g.N.Readable.meaning s.network) s.table s.sound.entries c.args.part c.args.toward c.requires.part c.requires.toward (flag c.leaving-leaving.result) (c.leaving-leaving.ensures _ c.requires.listed)
+    c.in-Some.fresh goes.0 goes.1 goes.2 c.split.new.self c.split.ensures.heads c.split.ensures.colours c.split.ensures.splits) }
 
-pub returns-in-Some-clause-split : goal.returns-in-Some-clause-split
-returns-in-Some-clause-split g c same = two g c.before
+
+
+pub leaving-leaving-requires-clause-nodes : goal.leaving-leaving-requires-clause-nodes
+leaving-leaving-requires-clause-nodes g c = rw c.requires.listed (filtered_below (members (role_in c.args.self.now.table) (role_in c.args.self.now.table c.args.toward)) (g.N.Readable.meaning c.args.self.now.network).nodes)
+
+pub returns-in-Some-clause-search : goal.returns-in-Some-clause-search
+returns-in-Some-clause-search g c =
+    let s = c.args.self.now in
+    let goes = c.in-Some.ensures in
+    in_two g.M.Measure.ops g.met.M.Measure.lawful (g.N.Readable.meaning s.network) s.table s.sound.entries c.args.part c.args.toward c.requires.part c.requires.toward (flag c.leaving-leaving.result) (c.leaving-leaving.ensures _ c.requires.listed)
+    c.in-Some.fresh goes.0 goes.1 goes.2 c.split.new.self c.split.ensures.heads c.split.ensures.colours c.split.ensures.splits

@@ -1,5 +1,5 @@
 use Rattle.std.proofs.Common.{◌≡◌, ◌<◌, ℕ}
-use Rattle.equivalence.specs.Splitting.{Even, members}
+use Rattle.equivalence.specs.Regular.{Even, members}
 use Rattle.session.specs.Tables.{role_in}
 use Rattle.session.proofs.open.Open.split_toward.Given as goal
 

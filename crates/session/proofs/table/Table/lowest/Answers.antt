@@ -1,6 +1,6 @@
 use Rattle.std.proofs.Common.{rules, tests, ◌≡◌, ℕ, true, false}
 use Rattle.std.proofs.lemmas.Iterator.{first_from_Range}
-use Rattle.session.specs.Leaving.{flag}
+use Rattle.equivalence.specs.Totals.{flag}
 use Rattle.session.proofs.Searches.{first_below}
 use Rattle.session.proofs.table.Table.lowest.Goals as goal
 

@@ -1,6 +1,6 @@
 use Rattle.std.proofs.Common.{◌≡◌, ◌≤◌, filter, length}
 use Rattle.std.specs.List.{range_with_len}
-use Rattle.equivalence.specs.Splitting.{members}
+use Rattle.equivalence.specs.Regular.{members}
 use Rattle.equivalence.specs.Vetted.{table_of}
 use Rattle.session.proofs.table.Table.members.Given as goal
 

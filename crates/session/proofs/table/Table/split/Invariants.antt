@@ -1,9 +1,12 @@
-use Rattle.std.proofs.Common.{length}
+use Rattle.std.proofs.Common.{◌≡◌, ◌<◌, ℕ, cond, length}
 use Rattle.equivalence.specs.Vetted.{table_of}
-use Rattle.session.specs.Leaving.{flag}
-use Rattle.session.proofs.Parts.{Moving}
+use Rattle.equivalence.specs.Totals.{flag}
+use Rattle.session.specs.Roles.{head_at}
 use Rattle.session.proofs.table.Table.split.Given as goal
 
--- those below y that leave are in the new role
-abbrev pub invariant-loop-y : goal.invariant-loop-y
-invariant-loop-y l = Moving (table_of l.fn.self.role_of.items) (length l.fn.self.role_of.items) (flag l.leaves) l.next l.fn.self.splits l.y l.fn.self.colours l.self
+-- the heads of the nodes so far
+abbrev pub invariant-loop-x : goal.invariant-loop-x
+invariant-loop-x l =
+    let old = l.fn.self in
+    (length l.heads.items ≡ l.x)
+    × ((k : ℕ) → k < l.x → table_of l.heads.items k ≡ cond (flag l.leaves k) l.fresh (head_at old.roles.items (table_of old.role_of.items k)))
