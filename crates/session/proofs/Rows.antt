@@ -51,6 +51,9 @@ row_same width r s same =
     row_filled width s (row_bytes width r) (length-map-range_with_len _ 0 width) (λ p l. get_or-map-range_with_len _ 0 width p p 0 l (omega arith) ∙ ap {B = ℕ} (λ b. cond b 1 0) (same p l))
 
 module _ (width : ℕ) where
+  pub row_byte_is : (r : ℕ → Bool) (p : ℕ) → p < width → get_or (row_bytes width r) p 0 ≡ cond (r p) 1 0
+  row_byte_is r p l = get_or-map-range_with_len _ 0 width p p 0 l (omega arith)
+
   length_row : (r : ℕ → Bool) → length (row_bytes width r) ≡ width
   length_row r = length-map-range_with_len _ 0 width
 
@@ -64,7 +67,7 @@ module _ (width : ℕ) where
       let at : 0 * width + p ≡ p = omega arith in
       ap (λ i. get_or (row_bytes width r ++ flat_map (row_bytes width) rows) i 0) at
       ∙ get_or_append_left (row_bytes width r) (flat_map (row_bytes width) rows) 0 p (omega (arith, length_row r))
-      ∙ get_or-map-range_with_len _ 0 width p p 0 lp (omega arith)
+      ∙ row_byte_is r p lp
   read_row (r ∷ rows) (suc k) p lk lp =
       let at : suc k * width + p ≡ length (row_bytes width r) + (k * width + p) = rw suc-mul (omega (arith, length_row r)) in
       ap (λ i. get_or (row_bytes width r ++ flat_map (row_bytes width) rows) i 0) at

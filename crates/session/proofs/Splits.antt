@@ -24,6 +24,9 @@ module _ {V : Type 0} (o : Operations V) (laws : Laws o) (m : Meaning) (t : Role
       ap (λ k. total o m k among)
       (count_below_one (members (role_in t) r) (nodes_in t) x y (omega (arith, fits)) (omega (arith, fits)) (eq-eqb (role_in t x) r ex) (eq-eqb (role_in t y) r ey) (omega (arith, (t.recorded.described r known).size)))
 
+  pub of_head : (r : ℕ) → r < count_in t → (head_in t r < m.nodes) × (head_of (role_in t) (head_in t r) ≡ head_in t r)
+  of_head r known = (omega (arith, fits, (t.recorded.described r known).node), head_own t r known)
+
   module _
       (part toward : ℕ)
       (of_part : (part < m.nodes) × (head_of (role_in t) part ≡ part))

@@ -1,13 +1,14 @@
 // What a question is true of, row by row.
 ghost use Rattle.std.specs.Prelude.{◌≡◌, ℕ, ◌+◌, ◌*◌, ◌<◌, ◌≤◌, length, ◌++◌, drop, filter};
-ghost use Rattle.std.specs.Prelude.{flat_map, Ok, Some};
-ghost use Rattle.std.specs.List.{All, range_with_len};
+ghost use Rattle.std.specs.Prelude.{flat_map, Err, IfOk, MatchResult, Ok, Some};
+ghost use Rattle.std.specs.Result.{IsOk};
+ghost use Rattle.std.specs.List.{range_with_len};
 ghost use Rattle.question.specs.Checks.{answer_start, lines_check};
 ghost use Rattle.question.specs.Lines.{claim};
-ghost use Rattle.question.specs.Truth.{line_row, rows};
+ghost use Rattle.question.specs.Truth.{answer, line_row, rows};
 ghost use Rattle.question.specs.Areas.{area_after, row_bytes};
 ghost use Rattle.question.specs.declared.line.Claim.{Claim};
-ghost use Rattle.session.specs.Marks.{marked, Written};
+ghost use Rattle.session.specs.Marks.{marked, LastRow, Written};
 ghost use Rattle.session.specs.OpenSessions.{state_of};
 
 use super::super::columns::Columns;
@@ -30,16 +31,11 @@ fn is_true(rows: &[u8], width: usize, k: usize, p: usize) -> bool
 
 impl<N: Editable, M: Measure> Open<N, M> {
     // The nodes that line k is true of, in order.
-    #[tactic(auto, using(
-        crate::proofs::Ranges::filter_in,
-        crate::proofs::Ranges::filter_out,
-        crate::proofs::Rows::listed_below
-    ))]
+    #[tactic(auto, using(crate::proofs::Ranges::filter_in, crate::proofs::Ranges::filter_out))]
     fn true_nodes<C: Columns>(&self, columns: &C, rows: &[u8], k: usize) -> ArrayVec<u8, 128>
         requires fits { C.nodes columns.now ≡ (state_of self.now).network.nodes }
         requires written { k * C.width columns.now + C.width columns.now ≤ length rows.now }
-        ensures below { All (λ y. y < (state_of self.now).network.nodes) result.items }
-        ensures set { let truth = marked (C.width columns.now) rows.now in
+        ensures { let truth = marked (C.width columns.now) rows.now in
             result.items ≡ filter (λ y. truth k ((C.columns columns.now).column y))
             (range_with_len 0 (state_of self.now).network.nodes) }
     {
@@ -54,7 +50,7 @@ impl<N: Editable, M: Measure> Open<N, M> {
     }
 
     // Writes the row of a line, by the rows before it: 1 where the line is true, and else 0.
-    #[tactic(auto, using(crate::proofs::Rows::row_claimed))]
+    #[tactic(auto, using(crate::proofs::Rows::row_claimed, crate::proofs::Rows::listed_below))]
     fn write_row<C: Columns>(&self, columns: &C, line: Line, rows: &[u8], row: &mut [u8])
         requires fits { C.nodes columns.now ≡ (state_of self.now).network.nodes }
         requires width { length row.old ≡ C.width columns.now }
@@ -127,9 +123,33 @@ impl<N: Editable, M: Measure> Open<N, M> {
             let at = C.columns columns.now in
             area.new ≡ area_after result (C.width columns.now)
             (rows M.Measure.ops s.network s.colours at question.now) area.old }
+        ensures last { let s = state_of self.now in
+            let at = C.columns columns.now in
+            let truth = answer M.Measure.ops s.network s.colours at question.now in
+            IfOk result (λ start. LastRow (C.width columns.now) start truth area.new) }
     {
         let start = check(question, columns.width(), area.len())?;
         self.write_rows(columns, question, area);
         Ok(start)
+    }
+
+    // The same, and lends the last row.
+    pub(crate) fn answer_row<'a, C: Columns>(
+        &self,
+        columns: &C,
+        question: &[Line],
+        area: &'a mut [u8],
+    ) -> Result<&'a [u8], Fault>
+        requires { C.nodes columns.now ≡ (state_of self.now).network.nodes }
+        ensures taken { let width = C.width columns.now in
+            MatchResult (answer_start question.now width (length area.old))
+            (λ _. IsOk result) (λ f. result ≡ Err f) }
+        ensures row { let s = state_of self.now in
+            let at = C.columns columns.now in
+            let truth = answer M.Measure.ops s.network s.colours at question.now in
+            IfOk result (λ row. row.now ≡ row_bytes (C.width columns.now) truth) }
+    {
+        let start = self.answer(columns, question, area)?;
+        Ok(&area[start..start + columns.width()])
     }
 }

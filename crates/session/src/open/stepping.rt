@@ -53,11 +53,13 @@ impl<N: Editable, M: Measure> Open<N, M> {
         ensures parts { parts_of self.new ≡ parts_of self.old }
     {
         let leaving = self.leaving(part, nodes);
-        let Some(fresh) = self.table.lowest(&leaving) else {
-            return None;
-        };
-        self.table.split(fresh, &leaving);
-        Some(fresh)
+        match self.table.lowest(&leaving) {
+            None => None,
+            Some(fresh) => {
+                self.table.split(fresh, &leaving);
+                Some(fresh)
+            }
+        }
     }
 
     // Splits a role by totals toward role c, where one has nodes that differ in it. Gives the heads

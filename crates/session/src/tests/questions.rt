@@ -45,10 +45,14 @@ fn looks<N: Editable + Drop, M: Measure + Drop, const W: usize>(
     let mut area = [7; 64];
     let start = open.look(question, &mut area);
     holds(rt, &area, start, rows);
+    let last = open.look_row(question, &mut area);
+    assert_eq!(rt; last.ok(), rows.last().map(|row| row.as_slice()));
     let settled = open.settle();
     let mut area = [7; 64];
     let start = settled.look(question, &mut area);
     holds(rt, &area, start, rows);
+    let last = settled.look_row(question, &mut area);
+    assert_eq!(rt; last.ok(), rows.last().map(|row| row.as_slice()));
     settled
 }
 
@@ -62,6 +66,8 @@ fn asks<N: Editable + Drop, M: Measure + Drop, const W: usize>(
     let mut area = [7; 64];
     let start = settled.ask(question, &mut area);
     holds(rt, &area, start, rows);
+    let last = settled.ask_row(question, &mut area);
+    assert_eq!(rt; last.ok(), rows.last().map(|row| row.as_slice()));
 }
 
 #[test]

@@ -2,6 +2,7 @@ use Rattle.std.proofs.Common.{◌≡◌, ◌∙◌, ℕ, Bool, ◌<◌, arith}
 use Rattle.equivalence.specs.Regular.{members}
 use Rattle.equivalence.specs.Splitting.{leaves}
 use Rattle.equivalence.specs.Totals.{flag}
+use Rattle.equivalence.proofs.Gathering.{filtered_below}
 use Rattle.session.specs.States.{state_with}
 use Rattle.session.specs.Steps.{InTwo}
 use Rattle.session.specs.Tables.{role_in}
@@ -10,10 +11,10 @@ use Rattle.session.proofs.Splits.{none_leaves, heads_stay, in_two}
 use Rattle.session.proofs.open.Open.split_role.Given.{Over}
 use Rattle.session.proofs.open.Open.split_role.Goals as goal
 
-pub returns-in_default-clause-search : goal.returns-in_default-clause-search
-returns-in_default-clause-search g c =
+pub returns-in-None-clause-search : goal.returns-in-None-clause-search
+returns-in-None-clause-search g c =
     let s = c.args.self.now in
-    none_leaves g.M.Measure.ops g.met.M.Measure.lawful (g.N.Readable.meaning s.network) s.table s.sound.entries c.args.part c.args.toward c.requires.part c.requires.toward (flag c.leaving-leaving.result) (c.leaving-leaving.ensures _ c.requires.listed) c.in_default.ensures
+    none_leaves g.M.Measure.ops g.met.M.Measure.lawful (g.N.Readable.meaning s.network) s.table s.sound.entries c.args.part c.args.toward c.requires.part c.requires.toward (flag c.leaving-leaving.result) (c.leaving-leaving.ensures _ c.requires.listed) c.in-None.ensures
 
 pub split-requires-clause-stay : goal.split-requires-clause-stay
 split-requires-clause-stay g c =
@@ -26,16 +27,22 @@ split-requires-clause-few g c =
     let s = c.args.self.now in
     omega (arith, s.sound.counted, numbered s.table (g.N.Readable.meaning s.network).nodes s.sound.entries, s.table.recorded.packed, s.table.recorded.few)
 
-two : (g : Over) (c : goal.After-split g) → (let m = g.N.Readable.meaning c.args.self.now.network in InTwo g.M.Measure.ops (state_with m c.args.self.now.table) (state_with m c.split.new.self) c.args.part c.args.toward c.in-Some.fresh)
-two g c =
+pub invariant_of-self : goal.invariant_of-self
+invariant_of-self g c =
+    let s = c.args.self.now in
+    let goes = c.in-Some.ensures in
+    record { sound = sound_split c.split.new.self g.M.Measure.ops (g.N.Readable.meaning s.network) g.met.M.Measure.lawful s.table c.args.part c.args.toward c.in-Some.fresh (c.split.ensures.nodes ∙ s.sound.entries) s.sound
+    (in_two g.M.Measure.ops g.met.M.Measure.lawful (g.N.Readable.meaning s.network) s.table s.sound.entries c.args.part c.args.toward c.requires.part c.requires.toward (flag c.leaving-leaving.result) (c.leaving-leaving.ensures _ c.requires.listed)
+    c.in-Some.fresh goes.0 goes.1 goes.2 c.split.new.self c.split.ensures.heads c.split.ensures.colours c.split.ensures.splits) }
+
+
+
+pub leaving-leaving-requires-clause-nodes : goal.leaving-leaving-requires-clause-nodes
+leaving-leaving-requires-clause-nodes g c = rw c.requires.listed (filtered_below (members (role_in c.args.self.now.table) (role_in c.args.self.now.table c.args.toward)) (g.N.Readable.meaning c.args.self.now.network).nodes)
+
+pub returns-in-Some-clause-search : goal.returns-in-Some-clause-search
+returns-in-Some-clause-search g c =
     let s = c.args.self.now in
     let goes = c.in-Some.ensures in
     in_two g.M.Measure.ops g.met.M.Measure.lawful (g.N.Readable.meaning s.network) s.table s.sound.entries c.args.part c.args.toward c.requires.part c.requires.toward (flag c.leaving-leaving.result) (c.leaving-leaving.ensures _ c.requires.listed)
     c.in-Some.fresh goes.0 goes.1 goes.2 c.split.new.self c.split.ensures.heads c.split.ensures.colours c.split.ensures.splits
-
-pub invariant_of-self-2 : goal.invariant_of-self-2
-invariant_of-self-2 g c =
-    let s = c.args.self.now in
-    record { sound = sound_split c.split.new.self g.M.Measure.ops (g.N.Readable.meaning s.network) g.met.M.Measure.lawful s.table c.args.part c.args.toward c.in-Some.fresh (c.split.ensures.nodes ∙ s.sound.entries) s.sound (two g c) }
-
-

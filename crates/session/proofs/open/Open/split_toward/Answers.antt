@@ -1,28 +1,37 @@
-use Rattle.std.proofs.Common.{rules, ◌≡◌, ◌↔◌, ℕ, Bool, ◌<◌, None, MatchOption, filter, ◌+◌, ◌-◌, ◌*◌, ◌≤◌, length, ◌/◌, ◌%◌, true, false, nat_eq, nat_lt, List, [], ◌∷◌, ◌++◌, slice_index_or, slice_set, bit_and, bit_or, Fits, w8, w32, w64, Bor, MutBor}
-use Rattle.std.specs.List.{All, range_with_len}
-use Rattle.equivalence.specs.Heads.{head_of}
-use Rattle.equivalence.specs.Regular.{Balanced, Even, Regular, members}
-use Rattle.equivalence.specs.Splitting.{SplitLaw, leaves}
-use Rattle.equivalence.specs.Totals.{flag}
-use Rattle.session.specs.OpenSessions.{state_of, parts_of}
-use Rattle.session.specs.States.{role}
-use Rattle.session.specs.Steps.{InTwo, Stepped}
-use Rattle.session.specs.Tables.{count_in}
-use Rattle.session.specs.declared.step.Step.{Step}
+use Rattle.std.proofs.Common.{◌≡◌, ◌∙◌, ◌<◌, below_more, refl, sym, ap, arith}
+use Rattle.equivalence.specs.Regular.{Even, members}
+use Rattle.session.specs.Tables.{count_in, record_in, role_in}
+use Rattle.session.specs.declared.role.Role.{Role}
+use Rattle.session.proofs.Splits.{even_single, of_head}
 use Rattle.session.proofs.open.Open.split_toward.Goals as goal
+use Rattle.session.proofs.open.Open.split_toward.Goals.{then-part-gt1+in_default, else-part-gt1}
 
--- src/open/stepping.rt:80:38
 pub split_role-requires-clause-part : goal.split_role-requires-clause-part
-split_role-requires-clause-part g c = ?
+split_role-requires-clause-part g c =
+    let s = c.loop-r.self in
+    let known : c.loop-r.r < count_in s.table = omega (arith, c.count-r-end.ensures, c.loop-r-test.true, ap (λ v. count_in v.table) c.loop-r.invariant.0) in
+    rw c.role-part.ensures (of_head g.M.Measure.ops g.met.M.Measure.lawful (g.N.Readable.meaning s.network) s.table s.sound.entries c.loop-r.r known)
 
--- src/open/stepping.rt:80:38
 pub split_role-requires-clause-toward : goal.split_role-requires-clause-toward
-split_role-requires-clause-toward g c = ?
+split_role-requires-clause-toward g c =
+    let s = c.args.self.now in
+    rw (c.loop-r.invariant.0, c.role-toward.ensures) (of_head g.M.Measure.ops g.met.M.Measure.lawful (g.N.Readable.meaning s.network) s.table s.sound.entries c.args.c c.requires)
 
--- src/open/stepping.rt:76:9
 pub loop-r-preserved : goal.loop-r-preserved
-loop-r-preserved g c = ?
+loop-r-preserved g c =
+    let s = c.args.self.now in
+    let m = g.N.Readable.meaning s.network in
+    let role = role_in s.table in
+    let r = c.loop-r.r in
+    let same = c.loop-r.invariant.0 in
+    let known : r < count_in s.table = rw (c.count-r-end.ensures) at c.loop-r-test.true in
+    let next = below_more (λ k. Even g.M.Measure.ops m role k (members role c.args.c)) r c.loop-r.invariant.1 in
+    elim c.if-part-gt1.branch [
+      | then-part-gt1+in_default w ↦ (w.self-is ∙ w.split_role.ensures.unaltered w.in_default.is ∙ same, next (rw (same, c.role-part.ensures, c.role-toward.ensures, same, (s.table.recorded.described r known).mate, (s.table.recorded.described c.args.c c.requires).mate) at w.in_default.ensures.search))
+      | else-part-gt1 w ↦ (w.self-is ∙ same, next (even_single g.M.Measure.ops g.met.M.Measure.lawful m s.table s.sound.entries r (members role c.args.c) known (omega (arith, w.if-part-gt1.false, ap (λ (v : Role). v.size) c.role-part.ensures, ap (λ v. (record_in v.table r).size) same))))
+    ]
 
--- src/open/stepping.rt:65:5
 pub returns-clause-search : goal.returns-clause-search
-returns-clause-search g c = ?
+returns-clause-search g c =
+    let s = c.args.self.now in
+    λ x y hx hy e. c.loop-r.invariant.1 (role_in s.table x) (omega (arith, s.sound.entries, s.table.recorded.ranged x (omega (arith, s.sound.entries)), c.count-r-end.ensures, c.loop-r-test.false)) x y hx hy refl (sym e)

@@ -1,7 +1,7 @@
 use Rattle.std.proofs.Common.{rules, length, ap, refl, arith}
 use Rattle.equivalence.specs.Regular.{Regular}
 use Rattle.equivalence.proofs.Refinement.{regular_each}
-use Rattle.equivalence.proofs.Splitting.{split_irregular}
+use Rattle.equivalence.proofs.Splitting.{split_irregular, split_law}
 use Rattle.session.specs.OpenSessions.{state_of}
 use Rattle.session.specs.States.{role}
 use Rattle.session.proofs.open.Open.step.Given.{Over}
@@ -25,3 +25,9 @@ returns-clause-stable g c = (λ _. regular g c, λ _. refl)
 
 pub returns-clause-stepped : goal.returns-clause-stepped
 returns-clause-stepped g c = ap (λ v. state_of v) c.loop-c.invariant.0
+
+pub returns-in-Some-clause-law : goal.returns-in-Some-clause-law
+returns-in-Some-clause-law g c = split_law g.M.Measure.ops g.met.M.Measure.lawful
+
+pub returns-clause-law : goal.returns-clause-law
+returns-clause-law g c = split_law g.M.Measure.ops g.met.M.Measure.lawful

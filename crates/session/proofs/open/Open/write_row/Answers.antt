@@ -35,7 +35,7 @@ loop-p-4-preserved g c =
     let holds : c.holds.result ≡ claimed o m (class_in c.args.self.now.table) columns truth (Claim.Tied c.in-Some-Tied.k c.in-Some-Tied.t) c.loop-p-4.p =
     c.holds.ensures
     ∙ ap (λ v. o.holds v c.in-Some-Tied.t)
-    (c.total_over-total.ensures.set among (c.deref.ensures.0 ∙ c.true_nodes-toward.ensures.set)
+    (c.total_over-total.ensures.set among (c.deref.ensures.0 ∙ c.true_nodes-toward.ensures)
     ∙ ap (λ x. total o m x among) c.node-node.ensures.value)
     in
     filled_more c.loop-p-4.row c.loop-p-4.p c.from-in-loop-p-4.result _ (omega (arith, c.loop-p-4.auto.row, c.loop-p-4-test.true)) c.loop-p-4.invariant
