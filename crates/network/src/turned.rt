@@ -1,5 +1,5 @@
 // A network turned round: what stands from i to j stands below from j to i.
-ghost use Rattle.network.specs.Layers.{turn};
+ghost use Rattle.network.specs.Layers.{transposed};
 
 use super::faults::Fault;
 use super::interface::{Editable, Readable};
@@ -8,7 +8,7 @@ use super::interface::{Editable, Readable};
 pub struct Turned<N>(pub N);
 
 impl<N: Readable> Readable for Turned<N> {
-    ghost meaning = { λ t. turn (N.Readable.meaning t.0) };
+    ghost meaning = { λ t. transposed (N.Readable.meaning t.0) };
 
     fn nodes(&self) -> usize {
         self.0.nodes()
