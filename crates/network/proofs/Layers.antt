@@ -1,4 +1,4 @@
--- Puts through a layer..
+-- Puts through a layer.
 use Rattle.std.proofs.Common.{◌≡◌, ℕ, cond, eqb, ltb, Ok, Err, Result, refl, ap, ◌∙◌}
 use mathlib.Core.Path.{fun_ext}
 use mathlib.Core.Bool.{and_comm}

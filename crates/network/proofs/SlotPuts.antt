@@ -1,4 +1,4 @@
--- A put to the list, by its slots. Assumes nothing.
+-- A put to the list, by its slots..
 use Rattle.std.proofs.Common.{◌≡◌, ℕ, zero, suc, ◌<◌, Bool, true, false, cond, ◌&&◌, eqb, List, [], ◌∷◌, length, get_or, set, replicate, Some, None, Ok, Err, refl, sym, ap, ◌∙◌, inl, inr, arith}
 use mathlib.Core.Path.{fun_ext}
 use Rattle.std.specs.Prelude.{nat_lt, position}
@@ -8,7 +8,7 @@ use Rattle.std.proofs.lemmas.Bool.Decides.{nat_tests}
 use Rattle.std.proofs.lemmas.List.{length-replicate, length-set}
 use Rattle.network.specs.Meaning.{inside}
 use Rattle.network.specs.Put.{put_answer, put_after}
-use Rattle.network.specs.Listed.{granted_slots, in_use, list_check, list_of, slots_answer, untied_slots, with_slots, OneEach}
+use Rattle.network.specs.Listed.{in_use, list_check, list_made, list_of, slots_answer, with_slots, OneEach}
 use Rattle.network.specs.SlotLists.{memory_of, slots_of, ties_of}
 use Rattle.network.specs.Slots.{byte_in, byte_of, holds, is_free, keeping, place_for, tidy}
 use Rattle.network.specs.declared.faults.Fault.{Fault}
@@ -138,20 +138,17 @@ byte_in-free : (k x y : ℕ) → byte_in (replicate k Free) x y ≡ 0
 byte_in-free zero x y = refl
 byte_in-free (suc k) x y = byte_in-free k x y
 
-module _ (n : ℕ) (memory : List Slot) (made : list_check n (length memory) ≡ Ok tt) where
+module _ (n : ℕ) (memory : List Slot) (fits : list_check n (length memory) ≡ Ok tt) where
   abbrev free : List Slot
   free = replicate (length memory) Free
 
   some : in_use n free ≡ free
   some = grind (arith, nat_tests)
 
-  granted : granted_slots n (length memory) ≡ (n, length memory)
-  granted = rw (granted_slots, made) refl
-
   pub made_tidy : tidy n (in_use n free) ≡ true
   made_tidy = rw some (tidy_free n (length memory))
 
-  pub made_untied : list_of n (in_use n free) ≡ untied_slots (granted_slots n (length memory))
+  pub made_untied : list_of n (in_use n free) ≡ list_made n (length memory)
   made_untied =
       let untied = ap (with_slots n (length free)) (fun_ext λ x. fun_ext λ y. byte_in-free (length memory) x y) in
-      rw (some, granted) (untied ∙ ap (λ s. with_slots n s (λ _ _. 0)) (length-replicate (length memory) Free))
+      rw (some, list_made, fits) (untied ∙ ap (λ s. with_slots n s (λ _ _. 0)) (length-replicate (length memory) Free))

@@ -1,4 +1,4 @@
--- What a network means. Assumes nothing.
+-- What a network means.
 --
 --   Meaning       nodes, ties, allowed pairs and cap of a network
 --   inside        both numbers of a pair are nodes

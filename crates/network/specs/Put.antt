@@ -1,4 +1,4 @@
--- What a put answers and leaves..
+-- What a put answers and leaves.
 --
 --   room          the byte is 0, or the pair is tied, or fewer pairs are tied than the cap
 --   put_answer    accepted, or the first no of: nodes (3), pair (4), room (5)

@@ -1,6 +1,6 @@
 // A network that keeps a byte for each of its pairs, in memory that is handed to its making.
 ghost use Rattle.std.specs.Prelude.{◌≡◌, ◌≤◌, cond, length, nat_le, Ok, Err, vec_len, ◌≢◌};
-ghost use Rattle.network.specs.Layouts.{Layout, LaidOut, place_in, with_ties, kept, cleared, written};
+ghost use Rattle.network.specs.Layouts.{Layout, LaidOut, place_in, with_ties, cleared, written};
 ghost use Rattle.network.specs.Put.{put_answer, put_after};
 
 use super::faults::Fault;
@@ -45,6 +45,8 @@ fn zero_out(bytes: &mut [u8], k: usize)
 }
 
 impl<S: Shape> Grid<S> {
+    ghost use Rattle.network.specs.Grids.{bytes_of, ties_of};
+
     // The shape, where the memory has a byte for each pair.
     pub(crate) fn fitted(shape: S, memory: &[u8]) -> Result<S, Fault>
         ensures { result ≡ cond (nat_le (S.layout shape).pairs (length memory.now)) (Ok shape) (Err Fault.Memory) }
@@ -59,8 +61,8 @@ impl<S: Shape> Grid<S> {
     pub(crate) fn untied(shape: S, memory: Vec<u8>) -> Grid<S>
         requires { (S.layout shape).pairs ≤ vec_len memory }
         ensures shape { result.shape ≡ shape }
-        ensures meaning { kept (S.layout shape) result.bytes.items ≡ with_ties (S.layout shape) (λ _ _. 0) }
-        ensures memory { result.bytes.items ≡ cleared (S.layout shape).pairs memory.items }
+        ensures meaning { ties_of result ≡ with_ties (S.layout shape) (λ _ _. 0) }
+        ensures memory { bytes_of result ≡ cleared (S.layout shape).pairs memory.items }
     {
         let mut bytes = memory;
         zero_out(&mut bytes, shape.pairs());
@@ -69,7 +71,7 @@ impl<S: Shape> Grid<S> {
 
     // Gives the memory back, the tie bytes first, then what stood past them at the making.
     pub fn into_memory(self) -> Vec<u8>
-        ensures { result.items ≡ self.bytes.items }
+        ensures { result.items ≡ bytes_of self }
     {
         let Grid { bytes, .. } = self;
         bytes
@@ -77,7 +79,9 @@ impl<S: Shape> Grid<S> {
 }
 
 impl<S: Shape> Readable for Grid<S> {
-    ghost meaning = { λ g. kept (S.layout g.shape) g.bytes.items };
+    ghost use Rattle.network.specs.Grids.{ties_of};
+
+    ghost meaning = { ties_of };
 
     fn nodes(&self) -> usize {
         self.shape.nodes()
@@ -92,11 +96,13 @@ impl<S: Shape> Readable for Grid<S> {
 }
 
 impl<S: Shape> Editable for Grid<S> {
+    ghost use Rattle.network.specs.Grids.{bytes_of, layout_of, ties_of};
+
     // One byte at most differs. There is room for every pair that has a byte, so `Full` never comes.
     fn put(&mut self, i: usize, j: usize, b: u8) -> Result<(), Fault>
-        ensures answer { result ≡ put_answer (kept (S.layout self.old.shape) self.old.bytes.items) i j b }
-        ensures after { kept (S.layout self.new.shape) self.new.bytes.items ≡ put_after (kept (S.layout self.old.shape) self.old.bytes.items) i j b }
-        ensures memory { self.new.bytes.items ≡ written (S.layout self.old.shape) self.old.bytes.items i j b }
+        ensures answer { result ≡ put_answer (ties_of self.old) i j b }
+        ensures after { ties_of self.new ≡ put_after (ties_of self.old) i j b }
+        ensures memory { bytes_of self.new ≡ written (layout_of self.old) (bytes_of self.old) i j b }
         ensures roomy { result ≢ Err Fault.Full }
     {
         if i >= self.nodes() || j >= self.nodes() {

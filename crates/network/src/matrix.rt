@@ -1,8 +1,7 @@
 // The matrix: n rows of n tie bytes in memory that is handed to its making.
-ghost use Rattle.std.specs.Prelude.{◌≡◌, ◌*◌, ◌≤◌, length, vec_len, MatchResult};
-ghost use Rattle.network.specs.Layouts.{cleared};
+ghost use Rattle.std.specs.Prelude.{◌≡◌, ◌≤◌, length, vec_len, MatchResult};
 ghost use Rattle.network.specs.LayoutLaws.{matrix_laid_out};
-ghost use Rattle.network.specs.Matrices.{matrix_layout, matrix_of, matrix_check, granted, untied};
+ghost use Rattle.network.specs.Matrices.{matrix_check, matrix_layout, matrix_made, matrix_memory};
 
 use super::faults::Fault;
 use super::grid::{Grid, Shape};
@@ -48,6 +47,8 @@ pub type Matrix = Grid<Square>;
 
 // The makings stay two: one takes a number of nodes, the other two sides.
 impl Grid<Square> {
+    ghost use Rattle.network.specs.Grids.{bytes_of, ties_of};
+
     // Whether n nodes can be made over this memory.
     pub fn check(n: usize, memory: &[u8]) -> Result<(), Fault>
         ensures { result ≡ matrix_check n (length memory.now) }
@@ -57,8 +58,8 @@ impl Grid<Square> {
 
     // The matrix of n nodes without ties. Where `check` refuses, the network without nodes, and nothing is written.
     pub fn new(n: usize, memory: Vec<u8>) -> Matrix
-        ensures meaning { matrix_of result.shape.n result.bytes.items ≡ untied (granted n (vec_len memory)) }
-        ensures memory { result.bytes.items ≡ cleared (granted n (vec_len memory) * granted n (vec_len memory)) memory.items }
+        ensures meaning { ties_of result ≡ matrix_made n (vec_len memory) }
+        ensures memory { bytes_of result ≡ matrix_memory n memory.items }
     {
         let shape = Square::over(n, &memory).unwrap_or(Square { n: 0 });
         Grid::untied(shape, memory)

@@ -3,8 +3,8 @@ ghost use Rattle.std.specs.Prelude.{◌≡◌, ◌≤◌, length, position, repl
 ghost use Rattle.std.specs.Prelude.{vec_items, vec_len};
 ghost use Rattle.network.specs.Put.{put_after, put_answer};
 ghost use Rattle.network.specs.Slots.{holds, is_free, place_for, tidy};
-ghost use Rattle.network.specs.Listed.{in_use, list_check, granted_slots, made_of, put_in};
-ghost use Rattle.network.specs.Listed.{slots_answer, untied_slots, OneEach};
+ghost use Rattle.network.specs.Listed.{in_use, list_check, list_made, list_memory, put_in};
+ghost use Rattle.network.specs.Listed.{slots_answer, OneEach};
 
 use super::faults::Fault;
 use super::interface::{Editable, Readable};
@@ -56,8 +56,8 @@ impl SlotList {
     /// without nodes, and nothing is written, whatever the slots hold.
     #[tactic(auto, using(crate::proofs::SlotPuts::made_tidy, crate::proofs::SlotPuts::made_untied))]
     pub fn new(n: usize, memory: Vec<Slot>) -> SlotList
-        ensures meaning { ties_of result ≡ untied_slots (granted_slots n (vec_len memory)) }
-        ensures memory { memory_of result ≡ made_of n memory.items }
+        ensures meaning { ties_of result ≡ list_made n (vec_len memory) }
+        ensures memory { memory_of result ≡ list_memory n memory.items }
     {
         if SlotList::check(n, &memory).is_err() {
             return SlotList { n: 0, memory };

@@ -1,8 +1,8 @@
 // The two-mode network: ties from side A to side B only, in memory that is handed to its making.
 ghost use Rattle.std.specs.Prelude.{◌≡◌, ◌+◌, ◌≤◌, length, vec_len, Ok, Err, MatchResult};
-ghost use Rattle.network.specs.Layouts.{cleared};
 ghost use Rattle.network.specs.LayoutLaws.{two_mode_laid_out};
-ghost use Rattle.network.specs.TwoModes.{two_mode_layout, two_mode_of, two_mode_check, granted_sides, untied_sides, pairs_across};
+ghost use Rattle.network.specs.TwoModes.{two_mode_check, two_mode_layout, two_mode_made};
+ghost use Rattle.network.specs.TwoModes.{two_mode_memory};
 
 use super::faults::Fault;
 use super::grid::{Grid, Shape};
@@ -48,6 +48,8 @@ impl Shape for Sides {
 pub type TwoMode = Grid<Sides>;
 
 impl Grid<Sides> {
+    ghost use Rattle.network.specs.Grids.{bytes_of, ties_of};
+
     // Whether sides of a and b nodes can be made over this memory.
     pub fn check(a: usize, b: usize, memory: &[u8]) -> Result<(), Fault>
         ensures { result ≡ two_mode_check a b (length memory.now) }
@@ -57,8 +59,8 @@ impl Grid<Sides> {
 
     // Sides of a and b nodes without ties. Where `check` refuses, the network without nodes, and nothing is written.
     pub fn new(a: usize, b: usize, memory: Vec<u8>) -> TwoMode
-        ensures meaning { two_mode_of result.shape.a result.shape.b result.bytes.items ≡ untied_sides (granted_sides a b (vec_len memory)) }
-        ensures memory { result.bytes.items ≡ cleared (pairs_across (granted_sides a b (vec_len memory))) memory.items }
+        ensures meaning { ties_of result ≡ two_mode_made a b (vec_len memory) }
+        ensures memory { bytes_of result ≡ two_mode_memory a b memory.items }
     {
         let shape = Sides::over(a, b, &memory).unwrap_or(Sides { a: 0, b: 0 });
         Grid::untied(shape, memory)
