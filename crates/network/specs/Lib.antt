@@ -1,6 +1,7 @@
 pub mod Meaning
 pub mod Faults
 pub mod Put
+pub mod PutsLaw
 pub mod Makings
 pub mod Layouts
 pub mod Matrices

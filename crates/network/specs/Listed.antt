@@ -15,7 +15,7 @@
 use Rattle.std.specs.Prelude.{◌≡◌, ℕ, ◌<◌, ◌≤◌, true, false, cond, ◌&&◌, ◌||◌, ◌==◌, nat_lt, nat_le, List, [], length, replicate, Ok, Err, Result, AllPairs}
 use Rattle.std.specs.List.{list_any}
 use Rattle.network.specs.Meaning.{Meaning, inside, tied_pairs}
-use Rattle.network.specs.Makings.{Answers, made, making_check}
+use Rattle.network.specs.Makings.{CheckAnswers, made, making_check}
 use Rattle.network.specs.Slots.{byte_in, holds, is_free, stored, taken}
 use Rattle.network.specs.declared.faults.Fault.{Fault}
 use Rattle.network.specs.declared.slot.Slot.{Slot}
@@ -58,4 +58,4 @@ pub record OneEach (n : ℕ) (slots : List Slot) : Type 0 where
   pub counted : taken slots ≡ tied_pairs (list_of n slots)
 
 abbrev pub ListCheckLaw : Type 0
-ListCheckLaw = (n slots : ℕ) → Answers ((0 < n) × (n ≤ 128)) ((0 < slots) × (slots ≤ 1024)) (list_check n slots)
+ListCheckLaw = (n slots : ℕ) → CheckAnswers ((0 < n) × (n ≤ 128)) ((0 < slots) × (slots ≤ 1024)) (list_check n slots)

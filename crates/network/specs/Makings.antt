@@ -2,8 +2,8 @@
 --
 --   making_check    accepted, or the first no of: nodes (1), memory (2)
 --   made            one thing where the check accepts, and another where it refuses
---   Refuses         what each refusal of a check says
---   Answers         what the answer of a check says
+--   CheckRefuses    what each refusal of a check says
+--   CheckAnswers    what the answer of a check says
 use Rattle.std.specs.Prelude.{Bool, cond, MatchResult, Ok, Err, Result}
 use Rattle.network.specs.declared.faults.Fault.{Fault}
 use Rattle.network.specs.declared.faults.Fault.TheVariants.{Size, Memory, Node, Pair, Full}
@@ -15,12 +15,12 @@ abbrev pub made : {A : Type 0} → Result (Unit {0}) Fault → A → A → A
 made {A} check accepted refused = elim check as (λ _. A) [ Ok _ ↦ accepted | Err _ ↦ refused ]
 
 -- the nodes are not so many; they are, and the memory does not fit
-abbrev pub Refuses : Type 0 → Type 0 → Fault → Type 0
-Refuses Sized Fits Size = Sized → ⊥
-Refuses Sized Fits Memory = Sized × (Fits → ⊥)
-Refuses Sized Fits Node = ⊥
-Refuses Sized Fits Pair = ⊥
-Refuses Sized Fits Full = ⊥
+abbrev pub CheckRefuses : Type 0 → Type 0 → Fault → Type 0
+CheckRefuses Sized Fits Size = Sized → ⊥
+CheckRefuses Sized Fits Memory = Sized × (Fits → ⊥)
+CheckRefuses Sized Fits Node = ⊥
+CheckRefuses Sized Fits Pair = ⊥
+CheckRefuses Sized Fits Full = ⊥
 
-abbrev pub Answers : Type 0 → Type 0 → Result (Unit {0}) Fault → Type 0
-Answers Sized Fits answer = MatchResult answer (λ _. Sized × Fits) (Refuses Sized Fits)
+abbrev pub CheckAnswers : Type 0 → Type 0 → Result (Unit {0}) Fault → Type 0
+CheckAnswers Sized Fits answer = MatchResult answer (λ _. Sized × Fits) (CheckRefuses Sized Fits)

@@ -9,7 +9,7 @@
 use Rattle.std.specs.Prelude.{ℕ, ◌+◌, ◌*◌, ◌<◌, ◌≤◌, true, ◌&&◌, List, length, Result, nat_le, nat_lt}
 use Rattle.network.specs.Meaning.{Meaning, inside}
 use Rattle.network.specs.Layouts.{Layout, cleared, with_ties}
-use Rattle.network.specs.Makings.{Answers, made, making_check}
+use Rattle.network.specs.Makings.{CheckAnswers, made, making_check}
 use Rattle.network.specs.declared.faults.Fault.{Fault}
 
 -- the byte from i to j stands at i * n + j
@@ -31,4 +31,4 @@ abbrev pub matrix_memory : ℕ → List ℕ → List ℕ
 matrix_memory n memory = made (matrix_check n (length memory)) (cleared (n * n) memory) memory
 
 abbrev pub MatrixCheckLaw : Type 0
-MatrixCheckLaw = (n bytes : ℕ) → Answers ((0 < n) × (n ≤ 128)) (n * n ≤ bytes) (matrix_check n bytes)
+MatrixCheckLaw = (n bytes : ℕ) → CheckAnswers ((0 < n) × (n ≤ 128)) (n * n ≤ bytes) (matrix_check n bytes)

@@ -10,7 +10,7 @@
 use Rattle.std.specs.Prelude.{ℕ, ◌+◌, ◌-◌, ◌*◌, ◌<◌, ◌≤◌, Bool, ◌&&◌, List, length, Result, nat_le, nat_lt}
 use Rattle.network.specs.Meaning.{Meaning}
 use Rattle.network.specs.Layouts.{Layout, cleared, with_ties}
-use Rattle.network.specs.Makings.{Answers, made, making_check}
+use Rattle.network.specs.Makings.{CheckAnswers, made, making_check}
 use Rattle.network.specs.declared.faults.Fault.{Fault}
 
 -- side A has the numbers below a, side B those from a to a + b - 1
@@ -36,4 +36,4 @@ abbrev pub two_mode_memory : ℕ → ℕ → List ℕ → List ℕ
 two_mode_memory a b memory = made (two_mode_check a b (length memory)) (cleared (a * b) memory) memory
 
 abbrev pub TwoModeCheckLaw : Type 0
-TwoModeCheckLaw = (a b bytes : ℕ) → Answers ((0 < a) × (0 < b) × (a + b ≤ 128)) (a * b ≤ bytes) (two_mode_check a b bytes)
+TwoModeCheckLaw = (a b bytes : ℕ) → CheckAnswers ((0 < a) × (0 < b) × (a + b ≤ 128)) (a * b ≤ bytes) (two_mode_check a b bytes)

@@ -2,6 +2,7 @@
 ghost use Rattle.std.specs.Prelude.{◌≡◌, ◌≤◌, cond, length, nat_le, Ok, Err, vec_len, ◌≢◌};
 ghost use Rattle.network.specs.Layouts.{Layout, LaidOut, place_in, with_ties, cleared, written};
 ghost use Rattle.network.specs.Put.{put_answer, put_after};
+ghost use Rattle.network.specs.PutsLaw.{PutsLaw};
 
 use super::faults::Fault;
 use super::interface::{Editable, Readable};
@@ -99,11 +100,13 @@ impl<S: Shape> Editable for Grid<S> {
     ghost use Rattle.network.specs.Grids.{bytes_of, layout_of, ties_of};
 
     // One byte at most differs. There is room for every pair that has a byte, so `Full` never comes.
+    #[tactic(auto, using(crate::proofs::PutsLaw::puts_law))]
     fn put(&mut self, i: usize, j: usize, b: u8) -> Result<(), Fault>
         ensures answer { result ≡ put_answer (ties_of self.old) i j b }
         ensures after { ties_of self.new ≡ put_after (ties_of self.old) i j b }
         ensures memory { bytes_of self.new ≡ written (layout_of self.old) (bytes_of self.old) i j b }
         ensures roomy { result ≢ Err Fault.Full }
+        ensures law { PutsLaw }
     {
         if i >= self.nodes() || j >= self.nodes() {
             return Err(Fault::Node);

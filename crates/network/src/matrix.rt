@@ -2,6 +2,7 @@
 ghost use Rattle.std.specs.Prelude.{◌≡◌, ◌≤◌, length, vec_len, MatchResult};
 ghost use Rattle.network.specs.LayoutLaws.{matrix_laid_out};
 ghost use Rattle.network.specs.Matrices.{matrix_check, matrix_layout, matrix_made, matrix_memory};
+ghost use Rattle.network.specs.Matrices.{MatrixCheckLaw};
 
 use super::faults::Fault;
 use super::grid::{Grid, Shape};
@@ -50,8 +51,10 @@ impl Grid<Square> {
     ghost use Rattle.network.specs.Grids.{bytes_of, ties_of};
 
     // Whether n nodes can be made over this memory.
+    #[tactic(auto, using(crate::proofs::Makings::matrix_check_law))]
     pub fn check(n: usize, memory: &[u8]) -> Result<(), Fault>
-        ensures { result ≡ matrix_check n (length memory.now) }
+        ensures value { result ≡ matrix_check n (length memory.now) }
+        ensures law { MatrixCheckLaw }
     {
         Square::over(n, memory).map(|_| ())
     }

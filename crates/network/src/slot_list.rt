@@ -2,8 +2,10 @@
 ghost use Rattle.std.specs.Prelude.{◌≡◌, ◌≤◌, length, position, replicate, true};
 ghost use Rattle.std.specs.Prelude.{vec_items, vec_len};
 ghost use Rattle.network.specs.Put.{put_after, put_answer};
+ghost use Rattle.network.specs.PutsLaw.{PutsLaw};
 ghost use Rattle.network.specs.Slots.{holds, is_free, place_for, tidy};
 ghost use Rattle.network.specs.Listed.{in_use, list_check, list_made, list_memory, put_in};
+ghost use Rattle.network.specs.Listed.{ListCheckLaw};
 ghost use Rattle.network.specs.Listed.{slots_answer, OneEach};
 
 use super::faults::Fault;
@@ -40,8 +42,10 @@ impl SlotList {
     ghost use Rattle.network.specs.SlotLists.{memory_of, slots_of, ties_of};
 
     /// Whether n nodes can be made over these slots, of which there may be 1 to 1,024.
+    #[tactic(auto, using(crate::proofs::Makings::list_check_law))]
     pub fn check(n: usize, memory: &[Slot]) -> Result<(), Fault>
-        ensures { result ≡ list_check n (length memory.now) }
+        ensures value { result ≡ list_check n (length memory.now) }
+        ensures law { ListCheckLaw }
     {
         if n == 0 || n > 128 {
             return Err(Fault::Size);
@@ -124,7 +128,11 @@ impl Editable for SlotList {
     ghost use Rattle.network.specs.SlotLists.{memory_of, slots_of, ties_of};
 
     // At most two passes over the slots. One slot at most differs.
-    #[tactic(auto, using(crate::proofs::SlotPuts::one_each, crate::proofs::SlotPuts::slots_told))]
+    #[tactic(auto, using(
+        crate::proofs::PutsLaw::puts_law,
+        crate::proofs::SlotPuts::one_each,
+        crate::proofs::SlotPuts::slots_told
+    ))]
     fn put(&mut self, i: usize, j: usize, b: u8) -> Result<(), Fault>
         ensures answer { result ≡ put_answer (ties_of self.old) i j b }
         ensures after { ties_of self.new ≡ put_after (ties_of self.old) i j b }
@@ -133,6 +141,7 @@ impl Editable for SlotList {
         ensures slots { let n = (ties_of self.old).nodes in
             result ≡ slots_answer n (slots_of self.old) i j b }
         ensures one_each { OneEach (ties_of self.new).nodes (slots_of self.new) }
+        ensures law { PutsLaw }
     {
         if i >= self.n || j >= self.n {
             return Err(Fault::Node);

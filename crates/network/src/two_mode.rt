@@ -2,7 +2,7 @@
 ghost use Rattle.std.specs.Prelude.{◌≡◌, ◌+◌, ◌≤◌, length, vec_len, Ok, Err, MatchResult};
 ghost use Rattle.network.specs.LayoutLaws.{two_mode_laid_out};
 ghost use Rattle.network.specs.TwoModes.{two_mode_check, two_mode_layout, two_mode_made};
-ghost use Rattle.network.specs.TwoModes.{two_mode_memory};
+ghost use Rattle.network.specs.TwoModes.{two_mode_memory, TwoModeCheckLaw};
 
 use super::faults::Fault;
 use super::grid::{Grid, Shape};
@@ -51,8 +51,10 @@ impl Grid<Sides> {
     ghost use Rattle.network.specs.Grids.{bytes_of, ties_of};
 
     // Whether sides of a and b nodes can be made over this memory.
+    #[tactic(auto, using(crate::proofs::Makings::two_mode_check_law))]
     pub fn check(a: usize, b: usize, memory: &[u8]) -> Result<(), Fault>
-        ensures { result ≡ two_mode_check a b (length memory.now) }
+        ensures value { result ≡ two_mode_check a b (length memory.now) }
+        ensures law { TwoModeCheckLaw }
     {
         Sides::over(a, b, memory).map(|_| ())
     }
