@@ -156,11 +156,11 @@ cycles_by_tally = record { drawing = cycles; weighed = by_tally; table = 0 ∷ 0
 
 -- nodes 0 to 2 on side A, and nodes 3 and 4 on side B
 abbrev pub two_sides : KnownNetwork
-two_sides = record { drawing = record { start = untied_sides (3, 2); edits = ties ((0, 3) ∷ (1, 3) ∷ []) }; weighed = by_kinds; table = 0 ∷ 0 ∷ 2 ∷ 3 ∷ 2 ∷ []; count = 3; splits = 2; irregular = [] }
+two_sides = record { drawing = record { start = untied_sides 3 2; edits = ties ((0, 3) ∷ (1, 3) ∷ []) }; weighed = by_kinds; table = 0 ∷ 0 ∷ 2 ∷ 3 ∷ 2 ∷ []; count = 3; splits = 2; irregular = [] }
 
 -- the second tie waits until the first leaves the only slot
 abbrev pub one_slot : KnownNetwork
-one_slot = record { drawing = record { start = untied_slots (3, 1); edits = put 0 1 1 (Ok tt) ∷ put 0 2 1 (Err NetworkFault.Full) ∷ put 0 1 0 (Ok tt) ∷ put 0 2 1 (Ok tt) ∷ [] }; weighed = by_kinds; table = 0 ∷ 1 ∷ 2 ∷ []; count = 3; splits = 2; irregular = [] }
+one_slot = record { drawing = record { start = untied_slots 3 1; edits = put 0 1 1 (Ok tt) ∷ put 0 2 1 (Err NetworkFault.Full) ∷ put 0 1 0 (Ok tt) ∷ put 0 2 1 (Ok tt) ∷ [] }; weighed = by_kinds; table = 0 ∷ 1 ∷ 2 ∷ []; count = 3; splits = 2; irregular = [] }
 
 abbrev pub known_networks : List KnownNetwork
 known_networks = two_colours ∷ own_tie ∷ short_chain ∷ long_chain ∷ one_tie ∷ teams_by_kinds ∷ teams_by_tally ∷ cycles_by_kinds ∷ cycles_by_bundles ∷ cycles_by_tally ∷ two_sides ∷ one_slot ∷ []
