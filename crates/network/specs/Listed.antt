@@ -14,7 +14,7 @@
 --   ListCheckLaw     what each answer of the check says
 use Rattle.std.specs.Prelude.{◌≡◌, ℕ, ◌<◌, ◌≤◌, true, false, cond, ◌&&◌, ◌||◌, ◌==◌, nat_lt, nat_le, List, [], length, replicate, Ok, Err, Result, AllPairs}
 use Rattle.std.specs.List.{list_any}
-use Rattle.network.specs.Meaning.{Meaning, inside, tied_pairs}
+use Rattle.network.specs.Meaning.{Meaning, inside, most_nodes, tied_pairs}
 use Rattle.network.specs.Makings.{CheckAnswers, made, making_check}
 use Rattle.network.specs.Slots.{byte_in, holds, is_free, stored, taken}
 use Rattle.network.specs.declared.faults.Fault.{Fault}
@@ -32,7 +32,7 @@ list_of n slots = with_slots n (length slots) (byte_in slots)
 
 -- 1 to 128 nodes (1), 1 to 1024 slots (2)
 abbrev pub list_check : ℕ → ℕ → Result (Unit {0}) Fault
-list_check n slots = making_check (nat_lt 0 n && nat_le n 128) (nat_lt 0 slots && nat_le slots 1024)
+list_check n slots = making_check (nat_lt 0 n && nat_le n most_nodes) (nat_lt 0 slots && nat_le slots 1024)
 
 abbrev pub untied_slots : ℕ → ℕ → Meaning
 untied_slots n slots = with_slots n slots (λ _ _. 0)
@@ -58,4 +58,4 @@ pub record OneEach (n : ℕ) (slots : List Slot) : Type 0 where
   pub counted : taken slots ≡ tied_pairs (list_of n slots)
 
 abbrev pub ListCheckLaw : Type 0
-ListCheckLaw = (n slots : ℕ) → CheckAnswers ((0 < n) × (n ≤ 128)) ((0 < slots) × (slots ≤ 1024)) (list_check n slots)
+ListCheckLaw = (n slots : ℕ) → CheckAnswers ((0 < n) × (n ≤ most_nodes)) ((0 < slots) × (slots ≤ 1024)) (list_check n slots)

@@ -7,7 +7,7 @@
 --   matrix_memory     the memory after a making, as it was where the check refuses
 --   MatrixCheckLaw    what each answer of the check says
 use Rattle.std.specs.Prelude.{ℕ, ◌+◌, ◌*◌, ◌<◌, ◌≤◌, true, ◌&&◌, List, length, Result, nat_le, nat_lt}
-use Rattle.network.specs.Meaning.{Meaning, inside}
+use Rattle.network.specs.Meaning.{Meaning, inside, most_nodes}
 use Rattle.network.specs.Layouts.{Layout, cleared, with_ties}
 use Rattle.network.specs.Makings.{CheckAnswers, made, making_check}
 use Rattle.network.specs.declared.faults.Fault.{Fault}
@@ -19,7 +19,7 @@ matrix_layout n =
 
 -- 1 to 128 nodes (1), memory of n * n bytes (2)
 abbrev pub matrix_check : ℕ → ℕ → Result (Unit {0}) Fault
-matrix_check n bytes = making_check (nat_lt 0 n && nat_le n 128) (nat_le (n * n) bytes)
+matrix_check n bytes = making_check (nat_lt 0 n && nat_le n most_nodes) (nat_le (n * n) bytes)
 
 abbrev pub untied : ℕ → Meaning
 untied n = with_ties (matrix_layout n) (λ _ _. 0)
@@ -31,4 +31,4 @@ abbrev pub matrix_memory : ℕ → List ℕ → List ℕ
 matrix_memory n memory = made (matrix_check n (length memory)) (cleared (n * n) memory) memory
 
 abbrev pub MatrixCheckLaw : Type 0
-MatrixCheckLaw = (n bytes : ℕ) → CheckAnswers ((0 < n) × (n ≤ 128)) (n * n ≤ bytes) (matrix_check n bytes)
+MatrixCheckLaw = (n bytes : ℕ) → CheckAnswers ((0 < n) × (n ≤ most_nodes)) (n * n ≤ bytes) (matrix_check n bytes)

@@ -8,7 +8,7 @@
 --   two_mode_memory    the memory after a making, as it was where the check refuses
 --   TwoModeCheckLaw    what each answer of the check says
 use Rattle.std.specs.Prelude.{ℕ, ◌+◌, ◌-◌, ◌*◌, ◌<◌, ◌≤◌, Bool, ◌&&◌, List, length, Result, nat_le, nat_lt}
-use Rattle.network.specs.Meaning.{Meaning}
+use Rattle.network.specs.Meaning.{Meaning, most_nodes}
 use Rattle.network.specs.Layouts.{Layout, cleared, with_ties}
 use Rattle.network.specs.Makings.{CheckAnswers, made, making_check}
 use Rattle.network.specs.declared.faults.Fault.{Fault}
@@ -24,7 +24,7 @@ two_mode_layout a b =
 
 -- a node on each side and at most 128 in all (1), memory of a * b bytes (2)
 abbrev pub two_mode_check : ℕ → ℕ → ℕ → Result (Unit {0}) Fault
-two_mode_check a b bytes = making_check (nat_lt 0 a && (nat_lt 0 b && nat_le (a + b) 128)) (nat_le (a * b) bytes)
+two_mode_check a b bytes = making_check (nat_lt 0 a && (nat_lt 0 b && nat_le (a + b) most_nodes)) (nat_le (a * b) bytes)
 
 abbrev pub untied_sides : ℕ → ℕ → Meaning
 untied_sides a b = with_ties (two_mode_layout a b) (λ _ _. 0)
@@ -36,4 +36,4 @@ abbrev pub two_mode_memory : ℕ → ℕ → List ℕ → List ℕ
 two_mode_memory a b memory = made (two_mode_check a b (length memory)) (cleared (a * b) memory) memory
 
 abbrev pub TwoModeCheckLaw : Type 0
-TwoModeCheckLaw = (a b bytes : ℕ) → CheckAnswers ((0 < a) × (0 < b) × (a + b ≤ 128)) (a * b ≤ bytes) (two_mode_check a b bytes)
+TwoModeCheckLaw = (a b bytes : ℕ) → CheckAnswers ((0 < a) × (0 < b) × (a + b ≤ most_nodes)) (a * b ≤ bytes) (two_mode_check a b bytes)

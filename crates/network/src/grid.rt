@@ -1,5 +1,6 @@
 // A network that keeps a byte for each of its pairs, in memory that is handed to its making.
 ghost use Rattle.std.specs.Prelude.{◌≡◌, ◌≤◌, cond, length, nat_le, Ok, Err, vec_len, ◌≢◌};
+ghost use Rattle.network.specs.Meaning.{most_nodes};
 ghost use Rattle.network.specs.Layouts.{Layout, LaidOut, place_in, with_ties, cleared, written};
 ghost use Rattle.network.specs.Put.{put_answer, put_after};
 ghost use Rattle.network.specs.PutsLaw.{PutsLaw};
@@ -14,7 +15,7 @@ pub trait Shape: Copy {
 
     fn nodes(self) -> usize
         ensures value { result ≡ (layout self).nodes }
-        ensures few { result ≤ 128 };
+        ensures few { result ≤ most_nodes };
 
     // How many pairs have a byte.
     fn pairs(self) -> usize

@@ -1,9 +1,12 @@
 // What a network tells, and what an editable one takes.
 ghost use Rattle.std.specs.Prelude.{◌≡◌, ◌≤◌, false};
-ghost use Rattle.network.specs.Meaning.{Meaning, inside};
+ghost use Rattle.network.specs.Meaning.{Meaning, inside, most_nodes};
 ghost use Rattle.network.specs.Put.{put_answer, put_after};
 
 use super::faults::Fault;
+
+/// As many nodes as a network may have.
+pub const MOST_NODES: usize = 128;
 
 // A network that can be read. Reading alters nothing.
 // A pair is two numbers in every call: of a type for pairs each caller would have to make one first.
@@ -12,7 +15,7 @@ pub trait Readable {
 
     fn nodes(&self) -> usize
         ensures value { result ≡ (meaning self.now).nodes }
-        ensures few { result ≤ 128 };
+        ensures few { result ≤ most_nodes };
 
     // The tie byte from i to j, 0 where one of them is no node.
     fn tie(&self, i: usize, j: usize) -> u8

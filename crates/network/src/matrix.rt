@@ -1,17 +1,19 @@
 // The matrix: n rows of n tie bytes in memory that is handed to its making.
 ghost use Rattle.std.specs.Prelude.{◌≡◌, ◌≤◌, length, vec_len, MatchResult};
+ghost use Rattle.network.specs.Meaning.{most_nodes};
 ghost use Rattle.network.specs.LayoutLaws.{matrix_laid_out};
 ghost use Rattle.network.specs.Matrices.{matrix_check, matrix_layout, matrix_made, matrix_memory};
 ghost use Rattle.network.specs.Matrices.{MatrixCheckLaw};
 
 use super::faults::Fault;
 use super::grid::{Grid, Shape};
+use super::interface::MOST_NODES;
 
 // Every pair of n nodes. The byte from i to j stands at i * n + j.
 #[derive(Clone, Copy)]
 pub struct Square {
     n: usize,
-    ghost few: { n ≤ 128 },
+    ghost few: { n ≤ most_nodes },
 }
 
 impl Square {
@@ -19,7 +21,7 @@ impl Square {
     fn over(n: usize, memory: &[u8]) -> Result<Square, Fault>
         ensures { MatchResult result (λ s. (s.n ≡ n) × (matrix_check n (length memory.now) ≡ Ok tt)) (λ f. matrix_check n (length memory.now) ≡ Err f) }
     {
-        if n == 0 || n > 128 {
+        if n == 0 || n > MOST_NODES {
             return Err(Fault::Size);
         }
         Grid::fitted(Square { n }, memory)

@@ -1,6 +1,7 @@
 // The list: a slot for each tied pair, in memory that is handed to its making.
 ghost use Rattle.std.specs.Prelude.{◌≡◌, ◌≤◌, length, position, replicate, true};
 ghost use Rattle.std.specs.Prelude.{vec_items, vec_len};
+ghost use Rattle.network.specs.Meaning.{most_nodes};
 ghost use Rattle.network.specs.Put.{put_after, put_answer};
 ghost use Rattle.network.specs.PutsLaw.{PutsLaw};
 ghost use Rattle.network.specs.Slots.{holds, is_free, place_for, tidy};
@@ -9,7 +10,7 @@ ghost use Rattle.network.specs.Listed.{ListCheckLaw};
 ghost use Rattle.network.specs.Listed.{slots_answer, OneEach};
 
 use super::faults::Fault;
-use super::interface::{Editable, Readable};
+use super::interface::{Editable, Readable, MOST_NODES};
 use super::slot::Slot;
 
 /// A network of n nodes that allows every pair. Each tied pair has a slot, and no other pair has
@@ -19,7 +20,7 @@ pub struct SlotList {
     n: usize,
     // Its slots, in no order. Without nodes it has none, and this is what its making was handed.
     memory: Vec<Slot>,
-    ghost few: { n ≤ 128 },
+    ghost few: { n ≤ most_nodes },
     ghost tidy: { tidy n (in_use n (vec_items memory)) ≡ true },
 }
 
@@ -47,7 +48,7 @@ impl SlotList {
         ensures value { result ≡ list_check n (length memory.now) }
         ensures law { ListCheckLaw }
     {
-        if n == 0 || n > 128 {
+        if n == 0 || n > MOST_NODES {
             return Err(Fault::Size);
         }
         if memory.is_empty() || memory.len() > 1024 {

@@ -1,18 +1,20 @@
 // The two-mode network: ties from side A to side B only, in memory that is handed to its making.
 ghost use Rattle.std.specs.Prelude.{◌≡◌, ◌+◌, ◌≤◌, length, vec_len, Ok, Err, MatchResult};
+ghost use Rattle.network.specs.Meaning.{most_nodes};
 ghost use Rattle.network.specs.LayoutLaws.{two_mode_laid_out};
 ghost use Rattle.network.specs.TwoModes.{two_mode_check, two_mode_layout, two_mode_made};
 ghost use Rattle.network.specs.TwoModes.{two_mode_memory, TwoModeCheckLaw};
 
 use super::faults::Fault;
 use super::grid::{Grid, Shape};
+use super::interface::MOST_NODES;
 
 // Side A has the nodes below a, side B the b nodes from a on. The byte from i to j stands at i * b + (j - a).
 #[derive(Clone, Copy)]
 pub struct Sides {
     a: usize,
     b: usize,
-    ghost few: { a + b ≤ 128 },
+    ghost few: { a + b ≤ most_nodes },
 }
 
 impl Sides {
@@ -20,7 +22,7 @@ impl Sides {
     fn over(a: usize, b: usize, memory: &[u8]) -> Result<Sides, Fault>
         ensures { MatchResult result (λ s. (s.a ≡ a) × (s.b ≡ b) × (two_mode_check a b (length memory.now) ≡ Ok tt)) (λ f. two_mode_check a b (length memory.now) ≡ Err f) }
     {
-        if a == 0 || b == 0 || a.saturating_add(b) > 128 {
+        if a == 0 || b == 0 || a.saturating_add(b) > MOST_NODES {
             return Err(Fault::Size);
         }
         Grid::fitted(Sides { a, b }, memory)
