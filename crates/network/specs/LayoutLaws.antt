@@ -24,8 +24,8 @@ place_below w r i j hi hj = grind (arith, hi, hj)
 
 place_apart : (w i j x y : ℕ) → j < w → y < w → x * w + y ≡ i * w + j → (x ≡ i) × (y ≡ j)
 place_apart w i j x y hj hy at = (
-    sym (div-mul-add x w y hy) ∙ ap (λ k. k / w) at ∙ div-mul-add i w j hj,
-    sym (mod-mul-add x w y hy) ∙ ap (λ k. k % w) at ∙ mod-mul-add i w j hj,
+  sym (div-mul-add x w y hy) ∙ ap (λ k. k / w) at ∙ div-mul-add i w j hj,
+  sym (mod-mul-add x w y hy) ∙ ap (λ k. k % w) at ∙ mod-mul-add i w j hj,
 )
 
 matrix_row : (n i : ℕ) → i < n → count_below (inside n i) n ≡ n

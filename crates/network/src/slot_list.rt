@@ -10,7 +10,7 @@ ghost use Rattle.network.specs.Listed.{ListCheckLaw};
 ghost use Rattle.network.specs.Listed.{slots_answer, OneEach};
 
 use super::faults::Fault;
-use super::interface::{Editable, Readable, MOST_NODES};
+use super::interface::{Editable, MOST_NODES, Readable};
 use super::slot::Slot;
 
 /// A network of n nodes that allows every pair. Each tied pair has a slot, and no other pair has
@@ -24,7 +24,7 @@ pub struct SlotList {
     ghost tidy: { tidy n (in_use n (vec_items memory)) ≡ true },
 }
 
-// Every slot free. Over a slice, since of a `Vec` that is lent to be filled no fact says with what.
+// Every slot free.
 fn free_all(slots: &mut [Slot])
     ensures { slots.new ≡ replicate (length slots.old) Slot.Free }
 {
@@ -129,11 +129,7 @@ impl Editable for SlotList {
     ghost use Rattle.network.specs.SlotLists.{memory_of, slots_of, ties_of};
 
     // At most two passes over the slots. One slot at most differs.
-    #[tactic(auto, using(
-        crate::proofs::PutsLaw::puts_law,
-        crate::proofs::SlotPuts::one_each,
-        crate::proofs::SlotPuts::slots_told
-    ))]
+    #[tactic(auto, using(crate::proofs::PutsLaw::puts_law, crate::proofs::SlotPuts::one_each))]
     fn put(&mut self, i: usize, j: usize, b: u8) -> Result<(), Fault>
         ensures answer { result ≡ put_answer (ties_of self.old) i j b }
         ensures after { ties_of self.new ≡ put_after (ties_of self.old) i j b }

@@ -1,9 +1,10 @@
-// A network turned round: what stands from i to j stands below from j to i.
+// A layer that turns every tie round.
 ghost use Rattle.network.specs.Layers.{transposed};
 
 use super::faults::Fault;
 use super::interface::{Editable, Readable};
 
+/// The network below turned round: a tie from i to j is one from j to i below.
 #[derive(Drop)]
 pub struct Turned<N>(pub N);
 

@@ -9,7 +9,8 @@ use super::faults::Fault;
 use super::grid::{Grid, Shape};
 use super::interface::MOST_NODES;
 
-// Side A has the nodes below a, side B the b nodes from a on. The byte from i to j stands at i * b + (j - a).
+/// Side A has the nodes below a, side B the b nodes from a on. The byte from i to j stands at
+/// i * b + (j - a).
 #[derive(Clone, Copy)]
 pub struct Sides {
     a: usize,
@@ -20,7 +21,10 @@ pub struct Sides {
 impl Sides {
     // The sides of a and b nodes, where they can be made over this memory.
     fn over(a: usize, b: usize, memory: &[u8]) -> Result<Sides, Fault>
-        ensures { MatchResult result (λ s. (s.a ≡ a) × (s.b ≡ b) × (two_mode_check a b (length memory.now) ≡ Ok tt)) (λ f. two_mode_check a b (length memory.now) ≡ Err f) }
+        ensures { let check = two_mode_check a b (length memory.now) in
+            MatchResult result
+            (λ s. (s.a ≡ a) × (s.b ≡ b) × (check ≡ Ok tt))
+            (λ f. check ≡ Err f) }
     {
         if a == 0 || b == 0 || a.saturating_add(b) > MOST_NODES {
             return Err(Fault::Size);
@@ -47,12 +51,14 @@ impl Shape for Sides {
     ghost laid_out = { λ s. two_mode_laid_out s.a s.b };
 }
 
+/// A network of two sides that allows the pairs from side A to side B, over a * b bytes. Side A has
+/// the nodes below a, side B the b nodes from a on.
 pub type TwoMode = Grid<Sides>;
 
 impl Grid<Sides> {
     ghost use Rattle.network.specs.Grids.{bytes_of, ties_of};
 
-    // Whether sides of a and b nodes can be made over this memory.
+    /// Whether sides of a and b nodes can be made over this memory.
     #[tactic(auto, using(crate::proofs::Makings::two_mode_check_law))]
     pub fn check(a: usize, b: usize, memory: &[u8]) -> Result<(), Fault>
         ensures value { result ≡ two_mode_check a b (length memory.now) }
@@ -61,7 +67,8 @@ impl Grid<Sides> {
         Sides::over(a, b, memory).map(|_| ())
     }
 
-    // Sides of a and b nodes without ties. Where `check` refuses, the network without nodes, and nothing is written.
+    /// Sides of a and b nodes without ties. Where `check` refuses, the network without nodes, and
+    /// nothing is written.
     pub fn new(a: usize, b: usize, memory: Vec<u8>) -> TwoMode
         ensures meaning { ties_of result ≡ two_mode_made a b (vec_len memory) }
         ensures memory { bytes_of result ≡ two_mode_memory a b memory.items }
