@@ -35,7 +35,7 @@ pub trait Shape: Copy {
 /// making. Its shape says where the byte of a pair stands, so that a reading and a put are one byte
 /// each, and are written and proved once for every shape. The bytes past those of the pairs stay as
 /// they were handed.
-#[derive(Drop)]
+#[derive(Drop, Debug)]
 pub struct Grid<S: Shape> {
     shape: S,
     bytes: Vec<u8>,

@@ -10,7 +10,7 @@ use super::grid::{Grid, Shape};
 use super::interface::MOST_NODES;
 
 /// Every pair of n nodes. The byte from i to j stands at i * n + j.
-#[derive(Clone, Copy)]
+#[derive(Clone, Copy, Debug)]
 pub struct Square {
     n: usize,
     ghost few: { n ≤ most_nodes },

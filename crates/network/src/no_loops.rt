@@ -6,7 +6,7 @@ use super::interface::{Editable, Readable};
 
 /// The network below, in which no node may be tied to itself. Ties that are there stay, and are
 /// read and counted.
-#[derive(Drop)]
+#[derive(Drop, Debug)]
 pub struct NoLoops<N>(pub N);
 
 impl<N: Readable> Readable for NoLoops<N> {

@@ -15,7 +15,7 @@ use super::slot::Slot;
 
 /// A network of n nodes that allows every pair. Each tied pair has a slot, and no other pair has
 /// one, so that as many pairs may be tied at a time as there are slots.
-#[derive(Drop)]
+#[derive(Drop, Debug)]
 pub struct SlotList {
     n: usize,
     // Its slots, in no order. Without nodes it has none, and this is what its making was handed.

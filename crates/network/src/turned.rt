@@ -5,7 +5,7 @@ use super::faults::Fault;
 use super::interface::{Editable, Readable};
 
 /// The network below turned round: a tie from i to j is one from j to i below.
-#[derive(Drop)]
+#[derive(Drop, Debug)]
 pub struct Turned<N>(pub N);
 
 impl<N: Readable> Readable for Turned<N> {

@@ -11,7 +11,7 @@ use super::interface::MOST_NODES;
 
 /// Side A has the nodes below a, side B the b nodes from a on. The byte from i to j stands at
 /// i * b + (j - a).
-#[derive(Clone, Copy)]
+#[derive(Clone, Copy, Debug)]
 pub struct Sides {
     a: usize,
     b: usize,

@@ -85,3 +85,20 @@ fn every_refusal_comes_through_two_layers(rt: HostRuntime) -> Result<(), Fail> {
     refuses_in_order(&rt, &mut NoLoops(Turned(full(&rt)?)));
     Ok(())
 }
+
+#[test]
+fn a_network_shows_what_it_keeps(rt: HostRuntime) -> Result<(), Fail> {
+    let heap = rt.alloc();
+    let matrix = Turned(Matrix::new(2, vec![in heap; 9; 5]?));
+    let shown = format!(in heap; "{matrix:?}")?;
+    assert_eq!(rt;
+        shown.as_str(),
+        "Turned(Grid { shape: Square { n: 2 }, bytes: [0, 0, 0, 0, 9] })"
+    );
+    let list = NoLoops(full(&rt)?);
+    let shown = format!(in heap; "{list:?}")?;
+    let slot = "Taken { from: 1, to: 0, byte: 1 }";
+    let expected = format!(in heap; "NoLoops(SlotList {{ n: 3, memory: [{slot}] }})")?;
+    assert_eq!(rt; shown.as_str(), expected.as_str());
+    Ok(())
+}
