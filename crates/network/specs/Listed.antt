@@ -1,4 +1,4 @@
--- A network whose tied pairs stand in slots..
+-- A network whose tied pairs stand in slots.
 --
 --   in_use           the slots of a network of n nodes, none where it has no nodes
 --   with_slots       the network of n nodes with these ties: every pair may be tied, as many at a time as there are slots
@@ -9,14 +9,15 @@
 --   list_memory      the memory after a making: free slots, or as it was where the check refuses
 --   slots_answer     what a put answers, by the slots: accepted, or the first no of nodes (3), a slot for the pair (5)
 --   put_in           the memory after a put
+--   OthersStayLaw    a put leaves every slot as it was but the place of its pair
 --   HeldOnce         no two slots hold one pair
 --   OneEach          so it is, and as many slots are taken as pairs are tied
 --   ListCheckLaw     what each answer of the check says
-use Rattle.std.specs.Prelude.{◌≡◌, ℕ, ◌<◌, ◌≤◌, true, false, cond, ◌&&◌, ◌||◌, ◌==◌, nat_lt, nat_le, List, [], length, replicate, Ok, Err, Result, AllPairs}
+use Rattle.std.specs.Prelude.{◌≡◌, ℕ, ◌<◌, ◌≤◌, true, false, cond, ◌&&◌, ◌||◌, ◌==◌, nat_lt, nat_le, List, [], length, replicate, Ok, Err, Result, Some, slice_index_or, AllPairs}
 use Rattle.std.specs.List.{list_any}
 use Rattle.network.specs.Meaning.{Meaning, inside, most_nodes, tied_pairs}
 use Rattle.network.specs.Makings.{CheckAnswers, made, making_check}
-use Rattle.network.specs.Slots.{byte_in, holds, is_free, stored, taken}
+use Rattle.network.specs.Slots.{byte_in, holds, is_free, place_for, stored, taken}
 use Rattle.network.specs.declared.faults.Fault.{Fault}
 use Rattle.network.specs.declared.slot.Slot.{Slot}
 use Rattle.network.specs.declared.slot.Slot.TheVariants.{Free}
@@ -49,6 +50,9 @@ slots_answer n slots i j b =
 
 abbrev pub put_in : ℕ → List Slot → ℕ → ℕ → ℕ → List Slot
 put_in n memory i j b = cond (inside n i j) (stored memory i j b) memory
+
+abbrev pub OthersStayLaw : Type 0
+OthersStayLaw = (n i j b k : ℕ) (memory : List Slot) → (place_for memory i j ≡ Some k → ⊥) → slice_index_or (put_in n memory i j b) k Free ≡ slice_index_or memory k Free
 
 abbrev pub HeldOnce : List Slot → Type 0
 HeldOnce slots = AllPairs (λ s t. (i j : ℕ) → holds i j s ≡ true → holds i j t ≡ false) slots

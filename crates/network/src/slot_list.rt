@@ -7,7 +7,7 @@ ghost use Rattle.network.specs.PutsLaw.{PutsLaw};
 ghost use Rattle.network.specs.Slots.{holds, is_free, place_for, tidy};
 ghost use Rattle.network.specs.Listed.{in_use, list_check, list_made, list_memory, put_in};
 ghost use Rattle.network.specs.Listed.{ListCheckLaw};
-ghost use Rattle.network.specs.Listed.{slots_answer, OneEach};
+ghost use Rattle.network.specs.Listed.{slots_answer, OneEach, OthersStayLaw};
 
 use super::faults::Fault;
 use super::interface::{Editable, MOST_NODES, Readable};
@@ -129,7 +129,7 @@ impl Editable for SlotList {
     ghost use Rattle.network.specs.SlotLists.{memory_of, slots_of, ties_of};
 
     // At most two passes over the slots. One slot at most differs.
-    #[tactic(auto, using(crate::proofs::PutsLaw::puts_law, crate::proofs::SlotPuts::one_each))]
+    #[tactic(auto, using(crate::proofs::SlotPuts::one_each, crate::proofs::SlotPuts::put_laws))]
     fn put(&mut self, i: usize, j: usize, b: u8) -> Result<(), Fault>
         ensures answer { result ≡ put_answer (ties_of self.old) i j b }
         ensures after { ties_of self.new ≡ put_after (ties_of self.old) i j b }
@@ -139,6 +139,7 @@ impl Editable for SlotList {
             result ≡ slots_answer n (slots_of self.old) i j b }
         ensures one_each { OneEach (ties_of self.new).nodes (slots_of self.new) }
         ensures law { PutsLaw }
+        ensures others { OthersStayLaw }
     {
         if i >= self.n || j >= self.n {
             return Err(Fault::Node);
