@@ -3,10 +3,7 @@ ghost use Rattle.std.specs.Prelude.{◌≡◌, Ok, Err, vec_len, MatchResult};
 ghost use Rattle.network.specs.Grids.{ties_of};
 ghost use Rattle.manual.specs.Drawing.{drawn_from, drawing, drawing_sides, Drawn};
 
-use network::faults::Fault;
-use network::interface::Editable;
-use network::matrix::Matrix;
-use network::two_mode::TwoMode;
+use network::{Editable, Fault, Matrix, TwoMode};
 
 // Puts byte 1 for each pair, in order, up to the first refusal. On a network without ties, these pairs are then tied and no other.
 #[tactic(auto, using(crate::proofs::DrawnTies::drawn_law))]
