@@ -38,8 +38,8 @@ use Rattle.driving.specs.declared.known.Weighing.TheVariants.{Kinds, Bundles, Ta
 
 abbrev pub started : Start → Meaning
 started (Matrix n) = untied n
-started (TwoMode a b) = untied_sides (a, b)
-started (Slots n s) = untied_slots (n, s)
+started (TwoMode a b) = untied_sides a b
+started (Slots n s) = untied_slots n s
 
 abbrev pub replies : Book → List (Edit × Reply) → List Reply
 replies book [] = []

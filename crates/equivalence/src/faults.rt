@@ -1,19 +1,17 @@
-// The refusals of the vet.
+// The refusals of the vet, with their numbers, their origin and their words.
 ghost use Rattle.std.specs.Prelude.{◌≡◌, Some};
-ghost use Rattle.equivalence.specs.Faults.{number, layer, said};
+ghost use Rattle.equivalence.specs.Faults.{number, origin, said};
 
-use network::faults::Layer;
 use std::error::Error;
 use std::fmt;
 
-// Why the vet refuses, with its number.
+/// Why the vet refuses.
 #[derive(Clone, Copy, PartialEq, Eq, Debug)]
 pub enum Fault {
-    // The table has not one byte for each node.
+    /// The table has not one byte for each node.
     Length = 10,
 }
 
-// Written here and for a network's faults: no code is generic over them, and a trait for two lines would have to be imported.
 impl Fault {
     pub fn number(self) -> u8
         ensures { result ≡ number self }
@@ -21,10 +19,11 @@ impl Fault {
         self as u8
     }
 
-    pub fn layer(self) -> Layer
-        ensures { result ≡ layer self }
+    /// The part of the engine that refuses, by its name.
+    pub fn origin(self) -> &'static str
+        ensures { result.now ≡ origin self }
     {
-        Layer::Vet
+        "vet"
     }
 }
 

@@ -9,7 +9,6 @@ use measure::interface::Measure;
 use measure::kinds::Kinds;
 use measure::tally::Tally;
 use measure::tally::counts::Counts;
-use network::faults::Layer;
 use network::interface::{Editable, Readable};
 use network::matrix::Matrix;
 use network::no_loops::NoLoops;
@@ -186,7 +185,7 @@ fn a_table_of_another_length_is_refused(rt: HostRuntime) -> Result<(), Fail> {
     assert_eq!(rt; Bundles.vet(&network, &[0, 1]), Err(Fault::Length));
     assert_eq!(rt; Tally.vet(&network, &[0, 1, 2, 3]), Err(Fault::Length));
     assert_eq!(rt; Fault::Length.number(), 10);
-    assert_eq!(rt; Fault::Length.layer(), Layer::Vet);
+    assert_eq!(rt; Fault::Length.origin(), "vet");
     let memory = network.into_memory();
     assert!(rt; memory.len() == 81);
     assert_eq!(rt; memory[1], 1);

@@ -25,7 +25,7 @@ abbrev pub drawing : ℕ → ℕ → List (ℕ × ℕ) → Result Meaning Fault
 drawing n size ties = drawn_on (matrix_check n size) (untied n) ties
 
 abbrev pub drawing_sides : ℕ → ℕ → ℕ → List (ℕ × ℕ) → Result Meaning Fault
-drawing_sides a b size ties = drawn_on (two_mode_check a b size) (untied_sides (a, b)) ties
+drawing_sides a b size ties = drawn_on (two_mode_check a b size) (untied_sides a b) ties
 
 abbrev pub among : List (ℕ × ℕ) → ℕ → ℕ → Bool
 among [] x y = false

@@ -15,7 +15,7 @@ use measure::bundles::Bundles;
 use measure::interface::Measure;
 use measure::kinds::Kinds;
 use measure::tally::Tally;
-use network::interface::{Editable, Readable};
+use network::{Editable, Readable};
 use question::line::Line;
 use session::settled::Settled;
 use std::alloc::{AllocError, Global};

@@ -1,13 +1,9 @@
 // A network as a page draws it.
 ghost use Rattle.std.specs.Prelude.{◌≡◌, Ok, Err, vec_len, MatchResult};
-ghost use Rattle.network.specs.Matrices.{matrix_of};
-ghost use Rattle.network.specs.TwoModes.{two_mode_of};
+ghost use Rattle.network.specs.Grids.{ties_of};
 ghost use Rattle.manual.specs.Drawing.{drawn_from, drawing, drawing_sides, Drawn};
 
-use network::faults::Fault;
-use network::interface::Editable;
-use network::matrix::Matrix;
-use network::two_mode::TwoMode;
+use network::{Editable, Fault, Matrix, TwoMode};
 
 // Puts byte 1 for each pair, in order, up to the first refusal. On a network without ties, these
 // pairs are then tied and no other.
@@ -25,7 +21,7 @@ fn tied<N: Editable + Drop>(mut network: N, ties: &[(usize, usize)]) -> Result<N
 
 // The matrix of n nodes over the memory, with a tie of kind 0 for each pair, built through the calls.
 pub(crate) fn drawn(n: usize, memory: Vec<u8>, ties: &[(usize, usize)]) -> Result<Matrix, Fault>
-    ensures { MatchResult result (λ m. drawing n (vec_len memory) ties.now ≡ Ok (matrix_of m.shape.n m.bytes.items)) (λ f. drawing n (vec_len memory) ties.now ≡ Err f) }
+    ensures { MatchResult result (λ m. drawing n (vec_len memory) ties.now ≡ Ok (ties_of m)) (λ f. drawing n (vec_len memory) ties.now ≡ Err f) }
 {
     Matrix::check(n, &memory)?;
     tied(Matrix::new(n, memory), ties)
@@ -38,7 +34,7 @@ pub(crate) fn drawn_sides(
     memory: Vec<u8>,
     ties: &[(usize, usize)],
 ) -> Result<TwoMode, Fault>
-    ensures { MatchResult result (λ m. drawing_sides a b (vec_len memory) ties.now ≡ Ok (two_mode_of m.shape.a m.shape.b m.bytes.items)) (λ f. drawing_sides a b (vec_len memory) ties.now ≡ Err f) }
+    ensures { MatchResult result (λ m. drawing_sides a b (vec_len memory) ties.now ≡ Ok (ties_of m)) (λ f. drawing_sides a b (vec_len memory) ties.now ≡ Err f) }
 {
     TwoMode::check(a, b, &memory)?;
     tied(TwoMode::new(a, b, memory), ties)

@@ -6,7 +6,7 @@ ghost use Rattle.manual.specs.Judging.{answer_of};
 use super::words::Verdict;
 use equivalence::classical::Classical;
 use equivalence::faults::Fault;
-use network::interface::{Editable, Readable};
+use network::{Editable, Readable};
 use session::settled::Settled;
 
 pub(crate) fn judged<N: Readable, M: Classical>(

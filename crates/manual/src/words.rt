@@ -5,8 +5,7 @@ ghost use Rattle.manual.specs.Words.{verdict_words, outcome_words, count_words, 
 
 use super::asking::Answer;
 use measure::interface::Measure;
-use network::faults::Fault;
-use network::interface::{Editable, Readable};
+use network::{Editable, Fault, Readable};
 use session::role::Role;
 use session::settled::Settled;
 use std::fmt;

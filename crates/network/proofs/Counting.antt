@@ -1,5 +1,5 @@
--- Laws and bounds of sums and counts over the numbers below n. Assumes nothing.
-use Rattle.std.proofs.Common.{◌≡◌, ℕ, zero, suc, ◌+◌, ◌-◌, ◌*◌, ◌<◌, ◌≤◌, Bool, true, false, cond, not, ◌&&◌, eqb, refl, ap, ◌∙◌, inl, inr, add-zero, add-suc, suc-mul, arith}
+-- Laws and bounds of sums and counts over the numbers below n.
+use Rattle.std.proofs.Common.{◌≡◌, ℕ, zero, suc, ◌+◌, ◌<◌, ◌≤◌, Bool, true, false, cond, not, ◌&&◌, eqb, refl, ap, ◌∙◌, inl, inr, arith}
 use Rattle.std.proofs.lemmas.Bool.{cases_Bool, cases_lt, cases_eq}
 use Rattle.std.proofs.lemmas.Bool.Decides.{nat_tests}
 use Rattle.network.specs.Meaning.{sum_below, count_below}
@@ -18,55 +18,42 @@ sum_below_swap f m zero = sum_below_none (λ _. 0) m (λ _ _. refl)
 sum_below_swap f m (suc n) =
     sum_below_plus (λ i. sum_below (λ j. f i j) n) (λ i. f i n) m ∙ ap (λ k. k + sum_below (λ i. f i n) m) (sum_below_swap f m n)
 
-sum_below_add : (f : ℕ → ℕ) (m n : ℕ) → sum_below f (m + n) ≡ sum_below f m + sum_below (λ k. f (m + k)) n
-sum_below_add f m zero = rw (add-zero m) (omega arith)
-sum_below_add f m (suc n) = rw add-suc (omega (arith, sum_below_add f m n))
-
--- summands that are 0 off the width numbers from lo on
-pub sum_below_window :
-    (f : ℕ → ℕ) (lo width n : ℕ)
-    → lo + width ≤ n
-    → ((k : ℕ) → k < lo → f k ≡ 0)
-    → ((k : ℕ) → lo + width ≤ k → f k ≡ 0)
-    → sum_below f n ≡ sum_below (λ k. f (lo + k)) width
-sum_below_window f lo width n le before past =
-    let to = lo + width in
-    let rest = n - to in
-    let all : to + rest ≡ n = omega arith in
-    let late = sum_below_none (λ k. f (to + k)) rest (λ k _. past (to + k) (omega arith)) in
-    omega (arith, ap (sum_below f) all, sum_below_add f to rest, sum_below_add f lo width, sum_below_none f lo before)
-
-pub sum_below_le : (f : ℕ → ℕ) (c n : ℕ) → ((k : ℕ) → k < n → f k ≤ c) → sum_below f n ≤ n * c
-sum_below_le f c zero h = omega arith
-sum_below_le f c (suc n) h =
-    rw suc-mul (omega (arith, sum_below_le f c n (λ k l. h k (omega arith)), h n (omega arith)))
+pub sum_below_le : (f g : ℕ → ℕ) (n : ℕ) → ((k : ℕ) → k < n → f k ≤ g k) → sum_below f n ≤ sum_below g n
+sum_below_le f g zero h = omega arith
+sum_below_le f g (suc n) h = omega (arith, sum_below_le f g n (λ k l. h k (omega arith)), h n (omega arith))
 
 -- one summand falls short, so the sum does
-pub sum_below_lt : (f : ℕ → ℕ) (c n : ℕ) → ((k : ℕ) → k < n → f k ≤ c) → (i : ℕ) → i < n → f i < c → sum_below f n < n * c
-sum_below_lt f c zero h i l short = omega arith
-sum_below_lt f c (suc n) h i l short =
+pub sum_below_lt : (f g : ℕ → ℕ) (n : ℕ) → ((k : ℕ) → k < n → f k ≤ g k) → (i : ℕ) → i < n → f i < g i → sum_below f n < sum_below g n
+sum_below_lt f g zero h i l short = omega arith
+sum_below_lt f g (suc n) h i l short =
     let lower = λ (k : ℕ) (l : k < n). h k (omega arith) in
-    let here : f n ≤ c = h n (omega arith) in
-    rw suc-mul (elim (cases_lt i n) [
-      | inl below ↦ omega (arith, sum_below_lt f c n lower i below short)
-      | inr above ↦ let e : i ≡ n = omega arith in omega (arith, sum_below_le f c n lower, rw e at short)
-    ])
+    let here : f n ≤ g n = h n (omega arith) in
+    elim (cases_lt i n) [
+      | inl below ↦ omega (arith, sum_below_lt f g n lower i below short)
+      | inr above ↦ let e : i ≡ n = omega arith in omega (arith, sum_below_le f g n lower, rw e at short)
+    ]
 
-one : (b : Bool) → cond b 1 0 ≤ 1
-one true = omega arith
-one false = omega arith
+one_le : (a b : Bool) → (a ≡ true → b ≡ true) → ◌≤◌ (cond a 1 0) (cond b 1 0)
+one_le a b within = grind (arith, nat_tests, within)
 
-pub count_below_le : (p : ℕ → Bool) (n : ℕ) → count_below p n ≤ n
-count_below_le p n = omega (arith, sum_below_le (λ k. cond (p k) 1 0) 1 n (λ k _. one (p k)))
+-- those that pass p pass q
+pub count_below_within : (p q : ℕ → Bool) (n : ℕ) → ((k : ℕ) → p k ≡ true → q k ≡ true) → count_below p n ≤ count_below q n
+count_below_within p q n within = sum_below_le (λ k. cond (p k) 1 0) (λ k. cond (q k) 1 0) n (λ k _. one_le (p k) (q k) (within k))
+
+-- and one more passes q
+pub count_below_short : (p q : ℕ → Bool) (n : ℕ) → ((k : ℕ) → p k ≡ true → q k ≡ true) → (i : ℕ) → i < n → p i ≡ false → q i ≡ true → count_below p n < count_below q n
+count_below_short p q n within i l out is =
+    sum_below_lt (λ k. cond (p k) 1 0) (λ k. cond (q k) 1 0) n (λ k _. one_le (p k) (q k) (within k)) i l (rw (out, is) (omega arith))
 
 pub count_below_all : (n : ℕ) → count_below (λ _. true) n ≡ n
 count_below_all zero = refl
 count_below_all (suc n) = omega (arith, count_below_all n)
 
+pub count_below_le : (p : ℕ → Bool) (n : ℕ) → count_below p n ≤ n
+count_below_le p n = omega (arith, count_below_within p (λ _. true) n (λ _ _. refl), count_below_all n)
+
 pub count_below_lt : (p : ℕ → Bool) (n i : ℕ) → i < n → p i ≡ false → count_below p n < n
-count_below_lt p n i l e =
-    let none : cond (p i) 1 0 < 1 = rw e (omega arith) in
-    omega (arith, sum_below_lt (λ k. cond (p k) 1 0) 1 n (λ k _. one (p k)) i l none)
+count_below_lt p n i l out = omega (arith, count_below_short p (λ _. true) n (λ _ _. refl) i l out refl, count_below_all n)
 
 same_one : (a b : Bool) → a ≡ b → ◌≡◌ {A = ℕ} (cond a 1 0) (cond b 1 0)
 same_one a b e = ap {B = ℕ} (λ t. cond t 1 0) e

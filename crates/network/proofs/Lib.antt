@@ -1,6 +1,8 @@
 pub mod Counting
 pub mod Room
 pub mod Puts
+pub mod PutsLaw
+pub mod Makings
 pub mod Places
 pub mod Layers
 pub mod Slots

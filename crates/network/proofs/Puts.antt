@@ -1,4 +1,4 @@
--- A put that is accepted, over any network. Assumes nothing.
+-- A put that is accepted, over any network.
 use Rattle.std.proofs.Common.{◌≡◌, ℕ, ◌<◌, true, Ok, Err, Result, sym, refl, subst, arith}
 use Rattle.std.proofs.lemmas.Bool.Decides.{nat_tests}
 use Rattle.network.specs.Meaning.{Meaning}

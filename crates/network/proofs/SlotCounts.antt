@@ -1,4 +1,4 @@
--- As many slots are taken as pairs are tied. Assumes nothing.
+-- As many slots are taken as pairs are tied.
 use Rattle.std.proofs.Common.{◌≡◌, ℕ, ◌+◌, ◌≤◌, Bool, true, cond, not, List, [], ◌∷◌, length, refl, arith}
 use Rattle.std.specs.Prelude.{nat_lt}
 use Rattle.std.specs.List.{list_any}

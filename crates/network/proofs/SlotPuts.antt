@@ -1,5 +1,5 @@
--- A put to the list, by its slots. Assumes nothing.
-use Rattle.std.proofs.Common.{◌≡◌, ℕ, zero, suc, ◌<◌, Bool, true, false, cond, ◌&&◌, eqb, List, [], ◌∷◌, length, get_or, set, replicate, Some, None, Ok, Err, refl, sym, ap, ◌∙◌, inl, inr, arith}
+-- A put to the list, by its slots.
+use Rattle.std.proofs.Common.{◌≡◌, ℕ, zero, suc, ◌<◌, Bool, true, false, cond, ◌&&◌, eqb, List, [], ◌∷◌, length, get_or, set, replicate, get_or-set_other, Option, Some, None, Ok, Err, refl, sym, ap, ◌∙◌, inl, inr, arith}
 use mathlib.Core.Path.{fun_ext}
 use Rattle.std.specs.Prelude.{nat_lt, position}
 use Rattle.std.specs.List.{list_any, position_or_len}
@@ -8,14 +8,16 @@ use Rattle.std.proofs.lemmas.Bool.Decides.{nat_tests}
 use Rattle.std.proofs.lemmas.List.{length-replicate, length-set}
 use Rattle.network.specs.Meaning.{inside}
 use Rattle.network.specs.Put.{put_answer, put_after}
-use Rattle.network.specs.Listed.{granted_slots, in_use, list_check, list_of, slots_answer, untied_slots, with_slots, OneEach}
+use Rattle.network.specs.PutsLaw.{PutsLaw}
+use Rattle.network.specs.Listed.{in_use, list_check, list_made, list_of, slots_answer, with_slots, OneEach, OthersStayLaw}
 use Rattle.network.specs.SlotLists.{memory_of, slots_of, ties_of}
-use Rattle.network.specs.Slots.{byte_in, byte_of, holds, is_free, keeping, place_for, tidy}
+use Rattle.network.specs.Slots.{byte_in, byte_of, holds, is_free, keeping, place_for, stored, tidy}
 use Rattle.network.specs.declared.faults.Fault.{Fault}
 use Rattle.network.specs.declared.slot.Slot.{Slot}
 use Rattle.network.specs.declared.slot.Slot.TheVariants.{Free}
 use Rattle.network.specs.declared.slot_list.SlotList.{SlotList}
 use Rattle.network.proofs.Puts.{put_accepted, put_refused}
+use Rattle.network.proofs.PutsLaw.{puts_law}
 use Rattle.network.proofs.Slots.{Kept, byte_found, byte_none, byte_in_outside, kept_found, kept_free, held_once, unheld, byte_in-set, tidy-set}
 use Rattle.network.proofs.SlotCounts.{slots_answers, tied_pairs-list}
 
@@ -138,20 +140,36 @@ byte_in-free : (k x y : ℕ) → byte_in (replicate k Free) x y ≡ 0
 byte_in-free zero x y = refl
 byte_in-free (suc k) x y = byte_in-free k x y
 
-module _ (n : ℕ) (memory : List Slot) (made : list_check n (length memory) ≡ Ok tt) where
+module _ (n : ℕ) (memory : List Slot) (fits : list_check n (length memory) ≡ Ok tt) where
   abbrev free : List Slot
   free = replicate (length memory) Free
 
   some : in_use n free ≡ free
   some = grind (arith, nat_tests)
 
-  granted : granted_slots n (length memory) ≡ (n, length memory)
-  granted = rw (granted_slots, made) refl
-
   pub made_tidy : tidy n (in_use n free) ≡ true
   made_tidy = rw some (tidy_free n (length memory))
 
-  pub made_untied : list_of n (in_use n free) ≡ untied_slots (granted_slots n (length memory))
+  pub made_untied : list_of n (in_use n free) ≡ list_made n (length memory)
   made_untied =
       let untied = ap (with_slots n (length free)) (fun_ext λ x. fun_ext λ y. byte_in-free (length memory) x y) in
-      rw (some, granted) (untied ∙ ap (λ s. with_slots n s (λ _ _. 0)) (length-replicate (length memory) Free))
+      rw (some, list_made, fits) (untied ∙ ap (λ s. with_slots n s (λ _ _. 0)) (length-replicate (length memory) Free))
+
+-- only the place of a pair may differ
+module _ (memory : List Slot) (k : ℕ) (s : Slot) where
+  abbrev set_at : Option ℕ → List Slot
+  set_at at = elim at [ Some p ↦ set memory p s | None ↦ memory ]
+
+  set_other : (at : Option ℕ) → (at ≡ Some k → ⊥) → get_or (set_at at) k Free ≡ get_or memory k Free
+  set_other (Some p) off = get_or-set_other memory p k s Free (λ e. off (ap {B = Option ℕ} (λ q. Some q) (sym e)))
+  set_other None off = refl
+
+pub others_stay_law : OthersStayLaw
+others_stay_law n i j b k memory off = by_test (inside n i j)
+  where
+    by_test : (test : Bool) → get_or (cond test (stored memory i j b) memory) k Free ≡ get_or memory k Free
+    by_test true = set_other memory k (keeping i j b) (place_for memory i j) off
+    by_test false = refl
+
+pub put_laws : PutsLaw × OthersStayLaw
+put_laws = (puts_law, others_stay_law)

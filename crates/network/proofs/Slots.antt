@@ -1,4 +1,4 @@
--- What slots hold, before and after one is written. Assumes nothing.
+-- What slots hold, before and after one is written.
 use Rattle.std.proofs.Common.{◌≡◌, ℕ, zero, suc, ◌+◌, ◌<◌, ◌≤◌, true, false, cond, not, ◌&&◌, eqb, List, [], ◌∷◌, length, get_or, set, Some, None, refl, subst, inl, inr, arith, rules}
 use Rattle.std.specs.Prelude.{position}
 use Rattle.std.specs.List.{position_or_len}

@@ -1,8 +1,11 @@
--- The number, the layer and the words of each refusal of a network. Assumes nothing.
+-- The number, the origin and the words of each refusal of a network.
+--
+--   number    1 to 5
+--   origin    the part of the engine that refuses
+--   said      the words
 use Rattle.std.specs.Prelude.{ℕ, List, codes}
 use Rattle.network.specs.declared.faults.Fault.{Fault}
 use Rattle.network.specs.declared.faults.Fault.TheVariants.{Size, Memory, Node, Pair, Full}
-use Rattle.network.specs.declared.faults.Layer.{Layer}
 
 abbrev pub number : Fault → ℕ
 number Size = 1
@@ -11,8 +14,8 @@ number Node = 3
 number Pair = 4
 number Full = 5
 
-abbrev pub layer : Fault → Layer
-layer f = Layer.Network
+abbrev pub origin : Fault → List ℕ
+origin f = codes "network"
 
 abbrev pub said : Fault → List ℕ
 said Size = codes "not 1 to 128 nodes, or a side without nodes"

@@ -1,10 +1,13 @@
 pub mod Meaning
 pub mod Faults
 pub mod Put
+pub mod PutsLaw
+pub mod Makings
 pub mod Layouts
 pub mod Matrices
 pub mod TwoModes
 pub mod LayoutLaws
+pub mod Grids
 pub mod Layers
 pub mod Slots
 pub mod Listed

@@ -1,6 +1,7 @@
--- What a network means. Assumes nothing.
+-- What a network means.
 --
 --   Meaning       nodes, ties, allowed pairs and cap of a network
+--   most_nodes    as many nodes as a network may have
 --   inside        both numbers of a pair are nodes
 --   tied          the pair has a tie byte above 0
 --   sum_below     the sum of f k over each k below n
@@ -16,6 +17,9 @@ pub record Meaning : Type 0 where
   pub allowed : ℕ → ℕ → Bool
   -- how many pairs may be tied at a time
   pub capacity : ℕ
+
+abbrev pub most_nodes : ℕ
+most_nodes = 128
 
 abbrev pub inside : ℕ → ℕ → ℕ → Bool
 inside n i j = nat_lt i n && nat_lt j n

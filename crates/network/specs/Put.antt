@@ -1,4 +1,4 @@
--- What a put answers and leaves. Assumes nothing.
+-- What a put answers and leaves.
 --
 --   room          the byte is 0, or the pair is tied, or fewer pairs are tied than the cap
 --   put_answer    accepted, or the first no of: nodes (3), pair (4), room (5)
@@ -18,13 +18,7 @@ put_answer m i j b =
     (Err Fault.Node)
 
 abbrev pub with_tie : Meaning → ℕ → ℕ → ℕ → Meaning
-with_tie m i j b =
-    record {
-      nodes = m.nodes;
-      tie = λ x y. cond (x == i && y == j) b (m.tie x y);
-      allowed = m.allowed;
-      capacity = m.capacity;
-    }
+with_tie m i j b = record m { tie = λ x y. cond (x == i && y == j) b (m.tie x y) }
 
 abbrev pub put_after : Meaning → ℕ → ℕ → ℕ → Meaning
 put_after m i j b = elim (put_answer m i j b) [ Ok _ ↦ with_tie m i j b | Err _ ↦ m ]

@@ -1,4 +1,4 @@
--- What the list network keeps. Assumes nothing.
+-- What the list network keeps.
 --
 --   memory_of    the memory that it holds: its slots, or, where it has no nodes, what was handed to its making
 --   slots_of     its slots

@@ -1,4 +1,4 @@
--- Slots, and the tie bytes that they hold. Assumes nothing.
+-- Slots, and the tie bytes that they hold.
 --
 --   is_free      a slot holds no pair
 --   holds        it holds this pair
@@ -6,8 +6,8 @@
 --   keeping      the slot of a pair with this byte, free where the byte is 0
 --   byte_in      the byte in the first slot that holds the pair, 0 where none does
 --   tidy         each taken slot holds a pair of nodes that no later slot holds, and a byte above 0
---   place_for    where a pair is kept: in the slot that holds it, or else in the first that is free
 --   taken        how many slots are taken
+--   place_for    where a pair is kept: in the slot that holds it, or else in the first that is free
 --   stored       the slots with this byte for the pair, as they were where there is no place for it
 use Rattle.std.specs.Prelude.{ℕ, Bool, true, false, cond, not, ◌&&◌, ◌==◌, nat_lt, List, [], ◌∷◌, Option, Some, None, count_by, position, slice_set}
 use Rattle.network.specs.Meaning.{inside}

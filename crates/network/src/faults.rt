@@ -1,32 +1,22 @@
-// The refusals of a network, with their numbers and layer.
+// The refusals of a network: their numbers, their origin and their words.
 ghost use Rattle.std.specs.Prelude.{◌≡◌, Some};
-ghost use Rattle.network.specs.Faults.{number, layer, said};
+ghost use Rattle.network.specs.Faults.{number, origin, said};
 
 use std::error::Error;
 use std::fmt;
 
-// The part of the engine that refuses.
-#[derive(Clone, Copy, PartialEq, Eq, Debug)]
-pub enum Layer {
-    Network,
-    Session,
-    Question,
-    Vet,
-    Script,
-}
-
-// Why a network refuses.
+/// Why a network refuses.
 #[derive(Clone, Copy, PartialEq, Eq, Debug)]
 pub enum Fault {
-    // There are not 1 to 128 nodes, or a side has none.
+    /// There are not 1 to 128 nodes, or a side has none.
     Size = 1,
-    // The memory handed to the making is too short, or has more than 1,024 slots.
+    /// The memory handed to the making is too short, or has more than 1,024 slots.
     Memory = 2,
-    // A node that is named is not below the number of nodes.
+    /// A node that is named is not below the number of nodes.
     Node = 3,
-    // The pair is not allowed.
+    /// The pair is not allowed.
     Pair = 4,
-    // The byte is not 0, the pair is untied, and as many pairs are tied as the cap allows.
+    /// The byte is not 0, the pair is untied, and as many pairs are tied as the cap allows.
     Full = 5,
 }
 
@@ -37,10 +27,11 @@ impl Fault {
         self as u8
     }
 
-    pub fn layer(self) -> Layer
-        ensures { result ≡ layer self }
+    /// The part of the engine that refuses, by its name: the network.
+    pub fn origin(self) -> &'static str
+        ensures { result.now ≡ origin self }
     {
-        Layer::Network
+        "network"
     }
 }
 

@@ -1,33 +1,41 @@
-// A network that keeps a byte for each of its pairs, in memory that is handed to its making.
+// A byte for each pair, in memory that is handed to the making.
 ghost use Rattle.std.specs.Prelude.{◌≡◌, ◌≤◌, cond, length, nat_le, Ok, Err, vec_len, ◌≢◌};
-ghost use Rattle.network.specs.Layouts.{Layout, LaidOut, place_in, with_ties, kept, cleared, written};
+ghost use Rattle.network.specs.Meaning.{most_nodes};
+ghost use Rattle.network.specs.Layouts.{Layout, LaidOut, place_in, with_ties, cleared, written};
 ghost use Rattle.network.specs.Put.{put_answer, put_after};
+ghost use Rattle.network.specs.PutsLaw.{PutsLaw};
 
 use super::faults::Fault;
 use super::interface::{Editable, Readable};
 
-// The nodes of a network, and where the byte of each pair stands.
-// Public since the networks are types over it; its module is not, so that no other shape can be given.
+/// What a grid is laid out by: how many nodes there are, which pairs have a byte, and where that
+/// stands. By its law each pair of nodes that may be tied has a byte of its own, and no other pair
+/// has one. Public since the networks are types over it; its module is not, so that no other shape
+/// can be given.
 pub trait Shape: Copy {
     ghost layout: { Self → Layout };
 
+    /// At most [`MOST_NODES`](crate::MOST_NODES).
     fn nodes(self) -> usize
         ensures value { result ≡ (layout self).nodes }
-        ensures few { result ≤ 128 };
+        ensures few { result ≤ most_nodes };
 
-    // How many pairs have a byte.
+    /// How many pairs have a byte.
     fn pairs(self) -> usize
         ensures { result ≡ (layout self).pairs };
 
-    // Where the byte from i to j stands, `None` where the pair has none.
+    /// Where the byte from i to j stands, `None` where the pair has none.
     fn place(self, i: usize, j: usize) -> Option<usize>
         ensures { result ≡ place_in (layout self) i j };
 
     ghost laid_out: { (s : Self) → LaidOut (layout s) };
 }
 
-// The bytes past those of the pairs stay as they were handed.
-#[derive(Drop)]
+/// A network that keeps the tie byte of each pair that may be tied, in memory that is handed to its
+/// making. Its shape says where the byte of a pair stands, so that a reading and a put are one byte
+/// each, and are written and proved once for every shape. The bytes past those of the pairs stay as
+/// they were handed.
+#[derive(Drop, Debug)]
 pub struct Grid<S: Shape> {
     shape: S,
     bytes: Vec<u8>,
@@ -35,7 +43,6 @@ pub struct Grid<S: Shape> {
 }
 
 // Sets the first k bytes to 0.
-// A function of its own, and k beside the bytes: where a part of a `Vec` is lent to be filled, no fact says with what (tried).
 fn zero_out(bytes: &mut [u8], k: usize)
     requires { k ≤ length bytes.old }
     ensures value { bytes.new ≡ cleared k bytes.old }
@@ -45,9 +52,12 @@ fn zero_out(bytes: &mut [u8], k: usize)
 }
 
 impl<S: Shape> Grid<S> {
+    ghost use Rattle.network.specs.Grids.{bytes_of, ties_of};
+
     // The shape, where the memory has a byte for each pair.
     pub(crate) fn fitted(shape: S, memory: &[u8]) -> Result<S, Fault>
-        ensures { result ≡ cond (nat_le (S.layout shape).pairs (length memory.now)) (Ok shape) (Err Fault.Memory) }
+        ensures { let fits = nat_le (S.layout shape).pairs (length memory.now) in
+            result ≡ cond fits (Ok shape) (Err Fault.Memory) }
     {
         if memory.len() < shape.pairs() {
             return Err(Fault::Memory);
@@ -59,17 +69,17 @@ impl<S: Shape> Grid<S> {
     pub(crate) fn untied(shape: S, memory: Vec<u8>) -> Grid<S>
         requires { (S.layout shape).pairs ≤ vec_len memory }
         ensures shape { result.shape ≡ shape }
-        ensures meaning { kept (S.layout shape) result.bytes.items ≡ with_ties (S.layout shape) (λ _ _. 0) }
-        ensures memory { result.bytes.items ≡ cleared (S.layout shape).pairs memory.items }
+        ensures meaning { ties_of result ≡ with_ties (S.layout shape) (λ _ _. 0) }
+        ensures memory { bytes_of result ≡ cleared (S.layout shape).pairs memory.items }
     {
         let mut bytes = memory;
         zero_out(&mut bytes, shape.pairs());
         Grid { shape, bytes }
     }
 
-    // Gives the memory back, the tie bytes first, then what stood past them at the making.
+    /// Gives the memory back, the tie bytes first, then what stood past them at the making.
     pub fn into_memory(self) -> Vec<u8>
-        ensures { result.items ≡ self.bytes.items }
+        ensures { result.items ≡ bytes_of self }
     {
         let Grid { bytes, .. } = self;
         bytes
@@ -77,7 +87,9 @@ impl<S: Shape> Grid<S> {
 }
 
 impl<S: Shape> Readable for Grid<S> {
-    ghost meaning = { λ g. kept (S.layout g.shape) g.bytes.items };
+    ghost use Rattle.network.specs.Grids.{ties_of};
+
+    ghost meaning = { ties_of };
 
     fn nodes(&self) -> usize {
         self.shape.nodes()
@@ -92,12 +104,18 @@ impl<S: Shape> Readable for Grid<S> {
 }
 
 impl<S: Shape> Editable for Grid<S> {
-    // One byte at most differs. There is room for every pair that has a byte, so `Full` never comes.
+    ghost use Rattle.network.specs.Grids.{bytes_of, layout_of, ties_of};
+
+    /// One byte at most differs. There is room for every pair that has a byte, so `Full` never
+    /// comes.
+    #[tactic(auto, using(crate::proofs::PutsLaw::puts_law))]
     fn put(&mut self, i: usize, j: usize, b: u8) -> Result<(), Fault>
-        ensures answer { result ≡ put_answer (kept (S.layout self.old.shape) self.old.bytes.items) i j b }
-        ensures after { kept (S.layout self.new.shape) self.new.bytes.items ≡ put_after (kept (S.layout self.old.shape) self.old.bytes.items) i j b }
-        ensures memory { self.new.bytes.items ≡ written (S.layout self.old.shape) self.old.bytes.items i j b }
+        ensures answer { result ≡ put_answer (ties_of self.old) i j b }
+        ensures after { ties_of self.new ≡ put_after (ties_of self.old) i j b }
+        ensures memory { let l = layout_of self.old in
+            bytes_of self.new ≡ written l (bytes_of self.old) i j b }
         ensures roomy { result ≢ Err Fault.Full }
+        ensures law { PutsLaw }
     {
         if i >= self.nodes() || j >= self.nodes() {
             return Err(Fault::Node);

@@ -1,10 +1,12 @@
-// A network in which no node may be tied to itself. Ties that are there stay, and are read and counted.
+// A layer that allows no tie from a node to itself.
 ghost use Rattle.network.specs.Layers.{without_loops};
 
 use super::faults::Fault;
 use super::interface::{Editable, Readable};
 
-#[derive(Drop)]
+/// The network below, in which no node may be tied to itself. Ties that are there stay, and are
+/// read and counted.
+#[derive(Drop, Debug)]
 pub struct NoLoops<N>(pub N);
 
 impl<N: Readable> Readable for NoLoops<N> {
@@ -20,7 +22,7 @@ impl<N: Readable> Readable for NoLoops<N> {
 }
 
 impl<N: Editable> Editable for NoLoops<N> {
-    // A number that is no node is left to the network below, which refuses it with `Node`.
+    /// A number that is no node is left to the network below, which refuses it with `Node`.
     fn put(&mut self, i: usize, j: usize, b: u8) -> Result<(), Fault> {
         if i == j && i < self.0.nodes() {
             return Err(Fault::Pair);

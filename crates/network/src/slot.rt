@@ -5,6 +5,7 @@ ghost use Rattle.network.specs.Slots.{byte_of, holds, is_free, keeping};
 /// What a slot holds.
 #[derive(Clone, Copy, PartialEq, Eq, Debug)]
 pub enum Slot {
+    /// No pair.
     Free,
     /// The tie byte from one node to another.
     Taken { from: u8, to: u8, byte: u8 },

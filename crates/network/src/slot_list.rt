@@ -1,27 +1,30 @@
 // The list: a slot for each tied pair, in memory that is handed to its making.
 ghost use Rattle.std.specs.Prelude.{◌≡◌, ◌≤◌, length, position, replicate, true};
 ghost use Rattle.std.specs.Prelude.{vec_items, vec_len};
+ghost use Rattle.network.specs.Meaning.{most_nodes};
 ghost use Rattle.network.specs.Put.{put_after, put_answer};
+ghost use Rattle.network.specs.PutsLaw.{PutsLaw};
 ghost use Rattle.network.specs.Slots.{holds, is_free, place_for, tidy};
-ghost use Rattle.network.specs.Listed.{in_use, list_check, granted_slots, made_of, put_in};
-ghost use Rattle.network.specs.Listed.{slots_answer, untied_slots, OneEach};
+ghost use Rattle.network.specs.Listed.{in_use, list_check, list_made, list_memory, put_in};
+ghost use Rattle.network.specs.Listed.{ListCheckLaw};
+ghost use Rattle.network.specs.Listed.{slots_answer, OneEach, OthersStayLaw};
 
 use super::faults::Fault;
-use super::interface::{Editable, Readable};
+use super::interface::{Editable, MOST_NODES, Readable};
 use super::slot::Slot;
 
 /// A network of n nodes that allows every pair. Each tied pair has a slot, and no other pair has
 /// one, so that as many pairs may be tied at a time as there are slots.
-#[derive(Drop)]
+#[derive(Drop, Debug)]
 pub struct SlotList {
     n: usize,
     // Its slots, in no order. Without nodes it has none, and this is what its making was handed.
     memory: Vec<Slot>,
-    ghost few: { n ≤ 128 },
+    ghost few: { n ≤ most_nodes },
     ghost tidy: { tidy n (in_use n (vec_items memory)) ≡ true },
 }
 
-// Every slot free. Over a slice, since of a `Vec` that is lent to be filled no fact says with what.
+// Every slot free.
 fn free_all(slots: &mut [Slot])
     ensures { slots.new ≡ replicate (length slots.old) Slot.Free }
 {
@@ -40,10 +43,12 @@ impl SlotList {
     ghost use Rattle.network.specs.SlotLists.{memory_of, slots_of, ties_of};
 
     /// Whether n nodes can be made over these slots, of which there may be 1 to 1,024.
+    #[tactic(auto, using(crate::proofs::Makings::list_check_law))]
     pub fn check(n: usize, memory: &[Slot]) -> Result<(), Fault>
-        ensures { result ≡ list_check n (length memory.now) }
+        ensures value { result ≡ list_check n (length memory.now) }
+        ensures law { ListCheckLaw }
     {
-        if n == 0 || n > 128 {
+        if n == 0 || n > MOST_NODES {
             return Err(Fault::Size);
         }
         if memory.is_empty() || memory.len() > 1024 {
@@ -56,8 +61,8 @@ impl SlotList {
     /// without nodes, and nothing is written, whatever the slots hold.
     #[tactic(auto, using(crate::proofs::SlotPuts::made_tidy, crate::proofs::SlotPuts::made_untied))]
     pub fn new(n: usize, memory: Vec<Slot>) -> SlotList
-        ensures meaning { ties_of result ≡ untied_slots (granted_slots n (vec_len memory)) }
-        ensures memory { memory_of result ≡ made_of n memory.items }
+        ensures meaning { ties_of result ≡ list_made n (vec_len memory) }
+        ensures memory { memory_of result ≡ list_memory n memory.items }
     {
         if SlotList::check(n, &memory).is_err() {
             return SlotList { n: 0, memory };
@@ -124,7 +129,7 @@ impl Editable for SlotList {
     ghost use Rattle.network.specs.SlotLists.{memory_of, slots_of, ties_of};
 
     // At most two passes over the slots. One slot at most differs.
-    #[tactic(auto, using(crate::proofs::SlotPuts::one_each, crate::proofs::SlotPuts::slots_told))]
+    #[tactic(auto, using(crate::proofs::SlotPuts::one_each, crate::proofs::SlotPuts::put_laws))]
     fn put(&mut self, i: usize, j: usize, b: u8) -> Result<(), Fault>
         ensures answer { result ≡ put_answer (ties_of self.old) i j b }
         ensures after { ties_of self.new ≡ put_after (ties_of self.old) i j b }
@@ -133,6 +138,8 @@ impl Editable for SlotList {
         ensures slots { let n = (ties_of self.old).nodes in
             result ≡ slots_answer n (slots_of self.old) i j b }
         ensures one_each { OneEach (ties_of self.new).nodes (slots_of self.new) }
+        ensures law { PutsLaw }
+        ensures others { OthersStayLaw }
     {
         if i >= self.n || j >= self.n {
             return Err(Fault::Node);

@@ -1,5 +1,5 @@
 // What each network answers, and what its memory then holds.
-use super::faults::{Fault, Layer};
+use super::faults::Fault;
 
 mod layers;
 mod matrix;
@@ -13,5 +13,5 @@ fn each_fault_has_its_number(rt: HostRuntime) {
     assert_eq!(rt; Fault::Node.number(), 3);
     assert_eq!(rt; Fault::Pair.number(), 4);
     assert_eq!(rt; Fault::Full.number(), 5);
-    assert_eq!(rt; Fault::Full.layer(), Layer::Network);
+    assert_eq!(rt; Fault::Full.origin(), "network");
 }

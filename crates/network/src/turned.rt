@@ -1,14 +1,15 @@
-// A network turned round: what stands from i to j stands below from j to i.
-ghost use Rattle.network.specs.Layers.{turn};
+// A layer that turns every tie round.
+ghost use Rattle.network.specs.Layers.{transposed};
 
 use super::faults::Fault;
 use super::interface::{Editable, Readable};
 
-#[derive(Drop)]
+/// The network below turned round: a tie from i to j is one from j to i below.
+#[derive(Drop, Debug)]
 pub struct Turned<N>(pub N);
 
 impl<N: Readable> Readable for Turned<N> {
-    ghost meaning = { λ t. turn (N.Readable.meaning t.0) };
+    ghost meaning = { λ t. transposed (N.Readable.meaning t.0) };
 
     fn nodes(&self) -> usize {
         self.0.nodes()

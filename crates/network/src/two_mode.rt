@@ -1,26 +1,32 @@
 // The two-mode network: ties from side A to side B only, in memory that is handed to its making.
 ghost use Rattle.std.specs.Prelude.{◌≡◌, ◌+◌, ◌≤◌, length, vec_len, Ok, Err, MatchResult};
-ghost use Rattle.network.specs.Layouts.{cleared};
+ghost use Rattle.network.specs.Meaning.{most_nodes};
 ghost use Rattle.network.specs.LayoutLaws.{two_mode_laid_out};
-ghost use Rattle.network.specs.TwoModes.{two_mode_layout, two_mode_of, two_mode_check, granted_sides, untied_sides, pairs_across};
+ghost use Rattle.network.specs.TwoModes.{two_mode_check, two_mode_layout, two_mode_made};
+ghost use Rattle.network.specs.TwoModes.{two_mode_memory, TwoModeCheckLaw};
 
 use super::faults::Fault;
 use super::grid::{Grid, Shape};
+use super::interface::MOST_NODES;
 
-// Side A has the nodes below a, side B the b nodes from a on. The byte from i to j stands at i * b + (j - a).
-#[derive(Clone, Copy)]
+/// Side A has the nodes below a, side B the b nodes from a on. The byte from i to j stands at
+/// i * b + (j - a).
+#[derive(Clone, Copy, Debug)]
 pub struct Sides {
     a: usize,
     b: usize,
-    ghost few: { a + b ≤ 128 },
+    ghost few: { a + b ≤ most_nodes },
 }
 
 impl Sides {
     // The sides of a and b nodes, where they can be made over this memory.
     fn over(a: usize, b: usize, memory: &[u8]) -> Result<Sides, Fault>
-        ensures { MatchResult result (λ s. (s.a ≡ a) × (s.b ≡ b) × (two_mode_check a b (length memory.now) ≡ Ok tt)) (λ f. two_mode_check a b (length memory.now) ≡ Err f) }
+        ensures { let check = two_mode_check a b (length memory.now) in
+            MatchResult result
+            (λ s. (s.a ≡ a) × (s.b ≡ b) × (check ≡ Ok tt))
+            (λ f. check ≡ Err f) }
     {
-        if a == 0 || b == 0 || a.saturating_add(b) > 128 {
+        if a == 0 || b == 0 || a.saturating_add(b) > MOST_NODES {
             return Err(Fault::Size);
         }
         Grid::fitted(Sides { a, b }, memory)
@@ -45,20 +51,27 @@ impl Shape for Sides {
     ghost laid_out = { λ s. two_mode_laid_out s.a s.b };
 }
 
+/// A network of two sides that allows the pairs from side A to side B, over a * b bytes. Side A has
+/// the nodes below a, side B the b nodes from a on.
 pub type TwoMode = Grid<Sides>;
 
 impl Grid<Sides> {
-    // Whether sides of a and b nodes can be made over this memory.
+    ghost use Rattle.network.specs.Grids.{bytes_of, ties_of};
+
+    /// Whether sides of a and b nodes can be made over this memory.
+    #[tactic(auto, using(crate::proofs::Makings::two_mode_check_law))]
     pub fn check(a: usize, b: usize, memory: &[u8]) -> Result<(), Fault>
-        ensures { result ≡ two_mode_check a b (length memory.now) }
+        ensures value { result ≡ two_mode_check a b (length memory.now) }
+        ensures law { TwoModeCheckLaw }
     {
         Sides::over(a, b, memory).map(|_| ())
     }
 
-    // Sides of a and b nodes without ties. Where `check` refuses, the network without nodes, and nothing is written.
+    /// Sides of a and b nodes without ties. Where `check` refuses, the network without nodes, and
+    /// nothing is written.
     pub fn new(a: usize, b: usize, memory: Vec<u8>) -> TwoMode
-        ensures meaning { two_mode_of result.shape.a result.shape.b result.bytes.items ≡ untied_sides (granted_sides a b (vec_len memory)) }
-        ensures memory { result.bytes.items ≡ cleared (pairs_across (granted_sides a b (vec_len memory))) memory.items }
+        ensures meaning { ties_of result ≡ two_mode_made a b (vec_len memory) }
+        ensures memory { bytes_of result ≡ two_mode_memory a b memory.items }
     {
         let shape = Sides::over(a, b, &memory).unwrap_or(Sides { a: 0, b: 0 });
         Grid::untied(shape, memory)

@@ -1,6 +1,5 @@
--- The number, the layer, the line and the words of each refusal of a question.
+-- The number, the origin, the line and the words of each refusal of a question.
 use Rattle.std.specs.Prelude.{ℕ, List, ◌++◌, codes, decimal, Option, Some, None}
-use Rattle.network.specs.declared.faults.Layer.{Layer}
 use Rattle.question.specs.declared.faults.Fault.{Fault}
 use Rattle.question.specs.declared.faults.Fault.TheVariants.{Lines, Code, Later, Area}
 
@@ -10,8 +9,8 @@ number (Code line) = 7
 number (Later line) = 8
 number Area = 9
 
-abbrev pub layer : Fault → Layer
-layer f = Layer.Question
+abbrev pub origin : Fault → List ℕ
+origin f = codes "question"
 
 abbrev pub line_of : Fault → Option ℕ
 line_of Lines = None

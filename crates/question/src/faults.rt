@@ -1,8 +1,7 @@
-// The refusals of a question, with their numbers, layer and line.
+// The refusals of a question, with their numbers, origin and line.
 ghost use Rattle.std.specs.Prelude.{◌≡◌, Some};
-ghost use Rattle.question.specs.Faults.{number, layer, line_of, said};
+ghost use Rattle.question.specs.Faults.{number, origin, line_of, said};
 
-use network::faults::Layer;
 use std::error::Error;
 use std::fmt;
 
@@ -31,10 +30,11 @@ impl Fault {
         }
     }
 
-    pub fn layer(self) -> Layer
-        ensures { result ≡ layer self }
+    /// The part of the engine that refuses, by its name.
+    pub fn origin(self) -> &'static str
+        ensures { result.now ≡ origin self }
     {
-        Layer::Question
+        "question"
     }
 
     /// The line that is refused, where it is one.

@@ -2,7 +2,6 @@
 use super::checking::check;
 use super::faults::Fault;
 use super::line::{Claim, Line};
-use network::faults::Layer;
 use std::test::Fail;
 
 // A line of this code with all operands.
@@ -124,7 +123,7 @@ fn a_fault_tells_its_number_and_line(rt: HostRuntime) {
     ] {
         assert_eq!(rt; fault.number(), number);
         assert_eq!(rt; fault.line(), line, "number {number}");
-        assert_eq!(rt; fault.layer(), Layer::Question, "number {number}");
+        assert_eq!(rt; fault.origin(), "question", "number {number}");
     }
 }
 

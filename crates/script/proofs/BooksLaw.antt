@@ -181,7 +181,7 @@ two_mode_turned a b = by_test (ltb 0 a && (ltb 0 b && leb (a + b) 128)) refl
         let few : a + b ≤ 128 = grind (arith, nat_tests) in
         let room : a * b ≤ 128 * 128 = mul-le a b 128 128 (omega arith) (omega arith) in
         let fits : leb (a * b) 16384 ≡ true = grind (arith, nat_tests) in
-        let made : two_mode_named a b enough ≡ Ok (untied_sides (a, b)) = rw (e, fits, two_mode_named) refl in
+        let made : two_mode_named a b enough ≡ Ok (untied_sides a b) = rw (e, fits, two_mode_named) refl in
         subst (Made (Said.TwoMode a b)) (sym made) (refl, first, second, few)
     by_test false e =
         let made : two_mode_named a b enough ≡ Err network.Fault.Size = rw (e, two_mode_named) refl in
@@ -196,7 +196,7 @@ slots_turned n s = by_tests (ltb 0 n && leb n 128) (ltb 0 s && leb s 1024) refl 
         let few : n ≤ 128 = grind (arith, nat_tests) in
         let any : 0 < s = grind (arith, nat_tests) in
         let held : s ≤ 1024 = grind (arith, nat_tests) in
-        let made : list_named n s ≡ Ok (untied_slots (n, s)) = rw (e, f, list_named) refl in
+        let made : list_named n s ≡ Ok (untied_slots n s) = rw (e, f, list_named) refl in
         subst (Made (Said.Slots n s)) (sym made) (refl, some, few, any, held)
     by_tests true false e f =
         let made : list_named n s ≡ Err network.Fault.Memory = rw (e, f, list_named) refl in

@@ -45,11 +45,11 @@ before_work : (phase : Phase) (said : Said) → belongs said phase ≡ true → 
 before_work phase (Said.Remark text) here off = refl
 before_work Phase.Network (Said.Matrix n) here off = by_size (untied n) (ltb 0 n && leb n 128) (leb (n * n) enough) (λ e. let l : n ≤ 128 = grind (arith, nat_tests) in grind (arith, nat_tests, mul-le n n 128 128 l l))
 before_work Phase.Network (Said.TwoMode a b) here off =
-    by_size (untied_sides (a, b)) (ltb 0 a && (ltb 0 b && leb (a + b) 128)) (leb (a * b) enough)
+    by_size (untied_sides a b) (ltb 0 a && (ltb 0 b && leb (a + b) 128)) (leb (a * b) enough)
     (λ e.
     let both : a + b ≤ 128 = grind (arith, nat_tests) in
     grind (arith, nat_tests, mul-le a b 128 128 (omega arith) (omega arith)))
-before_work Phase.Network (Said.Slots n s) here off = by_slots (untied_slots (n, s)) (ltb 0 n && leb n 128) (ltb 0 s && leb s 1024)
+before_work Phase.Network (Said.Slots n s) here off = by_slots (untied_slots n s) (ltb 0 n && leb n 128) (ltb 0 s && leb s 1024)
 before_work (Phase.Measure m) Said.Kinds here off = refl
 before_work (Phase.Measure m) Said.Bundles here off = refl
 before_work (Phase.Measure m) Said.Tally here off = refl

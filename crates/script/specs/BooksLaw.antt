@@ -33,8 +33,8 @@ use Rattle.script.specs.declared.faults.Reason.{Reason}
 
 abbrev pub Names : Result Said Reason → Meaning → Type 0
 Names (Ok (Said.Matrix n)) m = (m ≡ untied n) × (0 < n) × (n ≤ 128)
-Names (Ok (Said.TwoMode a b)) m = (m ≡ untied_sides (a, b)) × (0 < a) × (0 < b) × (a + b ≤ 128)
-Names (Ok (Said.Slots n s)) m = (m ≡ untied_slots (n, s)) × (0 < n) × (n ≤ 128) × (0 < s) × (s ≤ 1024)
+Names (Ok (Said.TwoMode a b)) m = (m ≡ untied_sides a b) × (0 < a) × (0 < b) × (a + b ≤ 128)
+Names (Ok (Said.Slots n s)) m = (m ≡ untied_slots n s) × (0 < n) × (n ≤ 128) × (0 < s) × (s ≤ 1024)
 Names other m = ⊥
 
 abbrev pub Chooses : Result Said Reason → Chosen → Type 0

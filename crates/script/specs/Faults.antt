@@ -1,12 +1,11 @@
 -- The number, the origin and the words of each refusal of a script.
 --
 --   number        12 to 15, or the number of the fault below
---   layer         the script, or the layer of the fault below
+--   origin        the script, or the origin of the fault below
 --   said          the words of a reason
 --   fault_said    the words of a fault: which record, where it begins, and why
 use Rattle.std.specs.Prelude.{ℕ, List, ◌++◌, codes, decimal}
 use Rattle.network.specs.Faults as network
-use Rattle.network.specs.declared.faults.Layer.{Layer}
 use Rattle.session.specs.Faults as session
 use Rattle.question.specs.Faults as question
 use Rattle.script.specs.declared.faults.Fault.{Fault}
@@ -22,14 +21,14 @@ number (Network f) = network.number f
 number (Session f) = session.number f
 number (Question f) = question.number f
 
-abbrev pub layer : Reason → Layer
-layer Mark = Layer.Script
-layer Fields = Layer.Script
-layer Stage = Layer.Script
-layer Length = Layer.Script
-layer (Network f) = network.layer f
-layer (Session f) = session.layer f
-layer (Question f) = question.layer f
+abbrev pub origin : Reason → List ℕ
+origin Mark = codes "script"
+origin Fields = codes "script"
+origin Stage = codes "script"
+origin Length = codes "script"
+origin (Network f) = network.origin f
+origin (Session f) = session.origin f
+origin (Question f) = question.origin f
 
 abbrev pub said : Reason → List ℕ
 said Mark = codes "an unknown mark"

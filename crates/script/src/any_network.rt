@@ -4,12 +4,7 @@ ghost use Rattle.network.specs.Put.{put_after, put_answer};
 ghost use Rattle.script.specs.Networks.{enough, list_named, matrix_named, meant, meant_in};
 ghost use Rattle.script.specs.Networks.{two_mode_named};
 
-use network::faults::Fault;
-use network::interface::{Editable, Readable};
-use network::matrix::Matrix;
-use network::slot::Slot;
-use network::slot_list::SlotList;
-use network::two_mode::TwoMode;
+use network::{Editable, Fault, Matrix, MOST_NODES, Readable, Slot, SlotList, TwoMode};
 use std::alloc::{AllocError, Global};
 
 #[derive(Drop)]
@@ -23,7 +18,7 @@ pub(crate) enum AnyNetwork {
 fn memory(heap: Global) -> Result<Vec<u8>, AllocError>
     ensures { IfOk result (λ bytes. vec_len bytes ≡ enough) }
 {
-    vec![in heap; 0; 128 * 128]
+    vec![in heap; 0; MOST_NODES * MOST_NODES]
 }
 
 impl AnyNetwork {

@@ -1,8 +1,7 @@
-// The refusals of a script, with their numbers and layer.
+// The refusals of a script, with their numbers, their origin and their words.
 ghost use Rattle.std.specs.Prelude.{◌≡◌, Some};
-ghost use Rattle.script.specs.Faults.{fault_said, layer, number, said};
+ghost use Rattle.script.specs.Faults.{fault_said, number, origin, said};
 
-use network::faults::Layer;
 use std::error::Error;
 use std::fmt;
 
@@ -38,15 +37,15 @@ impl Reason {
         }
     }
 
-    /// The part that refuses: the script itself, or the layer of the fault below.
-    pub fn layer(self) -> Layer
-        ensures { result ≡ layer self }
+    /// The part of the engine that refuses, by its name: the script, or the origin of the fault below.
+    pub fn origin(self) -> &'static str
+        ensures { result.now ≡ origin self }
     {
         match self {
-            Reason::Network(fault) => fault.layer(),
-            Reason::Session(fault) => fault.layer(),
-            Reason::Question(fault) => fault.layer(),
-            Reason::Mark | Reason::Fields | Reason::Stage | Reason::Length => Layer::Script,
+            Reason::Network(fault) => fault.origin(),
+            Reason::Session(fault) => fault.origin(),
+            Reason::Question(fault) => fault.origin(),
+            Reason::Mark | Reason::Fields | Reason::Stage | Reason::Length => "script",
         }
     }
 }
@@ -70,10 +69,10 @@ impl Fault {
     }
 
     /// That of its reason.
-    pub fn layer(self) -> Layer
-        ensures { result ≡ layer self.reason }
+    pub fn origin(self) -> &'static str
+        ensures { result.now ≡ origin self.reason }
     {
-        self.reason.layer()
+        self.reason.origin()
     }
 }
 

@@ -7,7 +7,7 @@ ghost use Rattle.script.specs.Listings.{heads, role_total, settled_lines, split_
 
 use super::lines::{print_node, print_totals, print_true};
 use measure::interface::Measure;
-use network::interface::{Editable, Readable};
+use network::{Editable, Readable};
 use question::line::Line;
 use session::settled::Settled;
 use std::io;

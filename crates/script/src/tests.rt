@@ -1,7 +1,7 @@
 // Scripts, and what they print.
 use super::faults::{Fault, Reason};
 use super::run::run;
-use network::faults::{Fault as NetworkFault, Layer};
+use network::faults::Fault as NetworkFault;
 use question::faults::Fault as QuestionFault;
 use session::faults::Fault as SessionFault;
 use std::alloc::Global;
@@ -385,8 +385,8 @@ fn a_script_of_more_than_32768_bytes_is_refused_as_a_whole(rt: HostRuntime) -> R
     };
     assert_eq!(rt; faults[0], whole);
     assert_eq!(rt;
-        (whole.reason.number(), whole.reason.layer()),
-        (15, Layer::Script)
+        (whole.reason.number(), whole.reason.origin()),
+        (15, "script")
     );
     assert_eq!(rt;
         format!(in heap; "{whole}")?.as_str(),
@@ -403,42 +403,42 @@ fn each_refusal_is_told_with_its_place(rt: HostRuntime) -> Result<(), Fail> {
     let refusals = [
         (
             (Reason::Network(NetworkFault::Memory), 1, 0),
-            (2, Layer::Network),
+            (2, "network"),
             "record 1, at byte 0: too little memory, or more than 1,024 slots",
         ),
         (
             (Reason::Network(NetworkFault::Node), 4, 17),
-            (3, Layer::Network),
+            (3, "network"),
             "record 4, at byte 17: no such node",
         ),
         (
             (Reason::Network(NetworkFault::Full), 6, 35),
-            (5, Layer::Network),
+            (5, "network"),
             "record 6, at byte 35: as many tied pairs as the cap allows",
         ),
         (
             (Reason::Session(SessionFault::Node), 7, 44),
-            (3, Layer::Session),
+            (3, "session"),
             "record 7, at byte 44: no such node",
         ),
         (
             (Reason::Question(QuestionFault::Later(0)), 8, 51),
-            (8, Layer::Question),
+            (8, "question"),
             "record 8, at byte 51: a line that is not earlier, at line 0",
         ),
         (
             (Reason::Mark, 9, 56),
-            (12, Layer::Script),
+            (12, "script"),
             "record 9, at byte 56: an unknown mark",
         ),
         (
             (Reason::Fields, 10, 59),
-            (13, Layer::Script),
+            (13, "script"),
             "record 10, at byte 59: fields that are wrong in number or form",
         ),
         (
             (Reason::Stage, 11, 64),
-            (14, Layer::Script),
+            (14, "script"),
             "record 11, at byte 64: a record that does not fit the stage",
         ),
     ];
@@ -453,7 +453,7 @@ fn each_refusal_is_told_with_its_place(rt: HostRuntime) -> Result<(), Fail> {
         };
         assert_eq!(rt; fault, wanted);
         assert_eq!(rt;
-            (fault.reason.number(), fault.reason.layer()),
+            (fault.reason.number(), fault.reason.origin()),
             told,
             "{words}"
         );

@@ -16,7 +16,7 @@ use measure::bundles::Bundles;
 use measure::interface::Measure;
 use measure::kinds::Kinds;
 use measure::tally::Tally;
-use network::interface::Editable;
+use network::Editable;
 use question::line::Line;
 use session::open::Open;
 use std::alloc::{AllocError, Global};

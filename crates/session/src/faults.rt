@@ -1,8 +1,7 @@
-// The refusals of a session, with their numbers and layer.
+// The refusals of a session, with their numbers, their origin and their words.
 ghost use Rattle.std.specs.Prelude.{◌≡◌, Some};
-ghost use Rattle.session.specs.Faults.{number, layer, said};
+ghost use Rattle.session.specs.Faults.{number, origin, said};
 
-use network::faults::Layer;
 use std::error::Error;
 use std::fmt;
 
@@ -22,10 +21,11 @@ impl Fault {
         self as u8
     }
 
-    pub fn layer(self) -> Layer
-        ensures { result ≡ layer self }
+    /// The part of the engine that refuses, by its name.
+    pub fn origin(self) -> &'static str
+        ensures { result.now ≡ origin self }
     {
-        Layer::Session
+        "session"
     }
 }
 

@@ -5,7 +5,7 @@ use super::totals::Weighing;
 use super::trouble::Trouble;
 use super::truth::{answered, truths};
 use measure::interface::Measure;
-use network::interface::Editable;
+use network::Editable;
 use question::line::Line;
 use session::settled::Settled;
 use std::alloc::AllocError;

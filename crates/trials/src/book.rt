@@ -1,5 +1,5 @@
 // A network with its colours, as the model keeps it: a plain byte for each pair of nodes.
-use network::faults::Fault as NetworkFault;
+use network::Fault as NetworkFault;
 use session::faults::Fault as SessionFault;
 
 /// No network of the trials has more nodes.

@@ -1,6 +1,6 @@
 // How much was held.
 use driving::call::Reply;
-use network::faults::Fault;
+use network::Fault;
 use std::fmt;
 
 /// How many networks were held, and of them how many tables were settled and vetted.

@@ -12,8 +12,7 @@ use super::totals::Weighing;
 use super::trouble::Trouble;
 use equivalence::vetting::vet;
 use measure::interface::Measure;
-use network::faults::Fault;
-use network::interface::Editable;
+use network::{Editable, Fault};
 use std::alloc::{AllocError, Global};
 
 // Each tie with byte 1.

@@ -9,7 +9,7 @@ use super::turns::Turn;
 use driving::call::{Exchange, Reply};
 use driving::drive::drive;
 use measure::interface::Measure;
-use network::interface::{Editable, Readable};
+use network::{Editable, Readable};
 use session::settled::Settled;
 use std::alloc::{AllocError, Global};
 

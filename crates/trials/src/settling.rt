@@ -10,7 +10,7 @@ use super::tellings::hold_roles;
 use super::trouble::Trouble;
 use super::vets::hold_vets;
 use measure::interface::Measure;
-use network::interface::{Editable, Readable};
+use network::{Editable, Readable};
 use session::open::Open;
 use session::settled::Settled;
 use session::step::Step;

@@ -8,13 +8,7 @@ use measure::bundles::Bundles;
 use measure::interface::Measure;
 use measure::kinds::Kinds;
 use measure::tally::Tally;
-use network::interface::Editable;
-use network::matrix::Matrix;
-use network::no_loops::NoLoops;
-use network::slot::Slot;
-use network::slot_list::SlotList;
-use network::turned::Turned;
-use network::two_mode::TwoMode;
+use network::{Editable, Matrix, NoLoops, Slot, SlotList, Turned, TwoMode};
 use std::fmt;
 
 #[derive(Clone, Copy, PartialEq, Eq)]

@@ -4,7 +4,7 @@ use super::steps::label;
 use super::tables::{head, role_count, same_roles, size};
 use super::trouble::Trouble;
 use measure::interface::Measure;
-use network::interface::Editable;
+use network::Editable;
 use session::faults::Fault;
 use session::open::Open;
 use session::role::Role;

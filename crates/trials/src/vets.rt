@@ -7,7 +7,7 @@ use super::trouble::Trouble;
 use equivalence::faults::Fault;
 use equivalence::vetting::vet;
 use measure::interface::Measure;
-use network::interface::Readable;
+use network::Readable;
 use std::alloc::AllocError;
 
 // More bytes than any network of the trials has nodes.

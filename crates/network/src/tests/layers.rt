@@ -1,5 +1,5 @@
 // Layers over networks and over one another.
-use super::super::faults::{Fault, Layer};
+use super::super::faults::Fault;
 use super::super::interface::{Editable, Readable};
 use super::super::matrix::Matrix;
 use super::super::no_loops::NoLoops;
@@ -57,17 +57,17 @@ fn loops_that_are_there_are_still_read(rt: HostRuntime) -> Result<(), Fail> {
 }
 
 // What a refused put tells of its fault.
-fn told(answer: Result<(), Fault>) -> Result<(), (Layer, u8)> {
-    answer.map_err(|fault| (fault.layer(), fault.number()))
+fn told(answer: Result<(), Fault>) -> Result<(), (&'static str, u8)> {
+    answer.map_err(|fault| (fault.origin(), fault.number()))
 }
 
 fn refuses_in_order<N: Editable>(rt: &impl Abort, network: &mut N) {
-    assert_eq!(rt; told(network.put(0, 3, 1)), Err((Layer::Network, 3)));
-    assert_eq!(rt; told(network.put(3, 3, 0)), Err((Layer::Network, 3)));
-    assert_eq!(rt; told(network.put(2, 2, 0)), Err((Layer::Network, 4)));
+    assert_eq!(rt; told(network.put(0, 3, 1)), Err(("network", 3)));
+    assert_eq!(rt; told(network.put(3, 3, 0)), Err(("network", 3)));
+    assert_eq!(rt; told(network.put(2, 2, 0)), Err(("network", 4)));
     // There is no room either, but the pair is asked first.
-    assert_eq!(rt; told(network.put(2, 2, 1)), Err((Layer::Network, 4)));
-    assert_eq!(rt; told(network.put(0, 2, 1)), Err((Layer::Network, 5)));
+    assert_eq!(rt; told(network.put(2, 2, 1)), Err(("network", 4)));
+    assert_eq!(rt; told(network.put(0, 2, 1)), Err(("network", 5)));
     assert_eq!(rt; told(network.put(0, 2, 0)), Ok(()));
     assert_eq!(rt; network.tie(0, 2), 0);
 }
@@ -83,5 +83,22 @@ fn full(rt: &(impl Abort + AllocGlobal)) -> Result<SlotList, Fail> {
 fn every_refusal_comes_through_two_layers(rt: HostRuntime) -> Result<(), Fail> {
     refuses_in_order(&rt, &mut Turned(NoLoops(full(&rt)?)));
     refuses_in_order(&rt, &mut NoLoops(Turned(full(&rt)?)));
+    Ok(())
+}
+
+#[test]
+fn a_network_shows_what_it_keeps(rt: HostRuntime) -> Result<(), Fail> {
+    let heap = rt.alloc();
+    let matrix = Turned(Matrix::new(2, vec![in heap; 9; 5]?));
+    let shown = format!(in heap; "{matrix:?}")?;
+    assert_eq!(rt;
+        shown.as_str(),
+        "Turned(Grid { shape: Square { n: 2 }, bytes: [0, 0, 0, 0, 9] })"
+    );
+    let list = NoLoops(full(&rt)?);
+    let shown = format!(in heap; "{list:?}")?;
+    let slot = "Taken { from: 1, to: 0, byte: 1 }";
+    let expected = format!(in heap; "NoLoops(SlotList {{ n: 3, memory: [{slot}] }})")?;
+    assert_eq!(rt; shown.as_str(), expected.as_str());
     Ok(())
 }

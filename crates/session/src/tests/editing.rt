@@ -5,7 +5,6 @@ use super::super::step::Step;
 use super::{TEAMS, chain, matrix, settles, shows, tied};
 use measure::interface::Measure;
 use measure::kinds::Kinds;
-use network::faults::Layer;
 use network::interface::Editable;
 use network::no_loops::NoLoops;
 use network::two_mode::TwoMode;
@@ -36,9 +35,9 @@ fn an_edit_that_alters_nothing_brings_them_back_too(rt: HostRuntime) -> Result<(
     Ok(())
 }
 
-// The layer and the number of a refusal.
-fn told(answer: Result<(), network::faults::Fault>) -> Result<(), (Layer, u8)> {
-    answer.map_err(|fault| (fault.layer(), fault.number()))
+// The origin and the number of a refusal.
+fn told(answer: Result<(), network::faults::Fault>) -> Result<(), (&'static str, u8)> {
+    answer.map_err(|fault| (fault.origin(), fault.number()))
 }
 
 // The session refuses the tie by this number, and shows these roles before and after.
@@ -52,7 +51,7 @@ fn refuses<N: Editable, M: Measure>(
 ) {
     shows(rt, open, splits, heads);
     let tie = open.network().tie(i, j);
-    assert_eq!(rt; told(open.put(i, j, 2)), Err((Layer::Network, number)));
+    assert_eq!(rt; told(open.put(i, j, 2)), Err(("network", number)));
     assert_eq!(rt; open.network().tie(i, j), tie);
     shows(rt, open, splits, heads);
 }
@@ -103,6 +102,6 @@ fn a_refused_colour_alters_nothing(rt: HostRuntime) -> Result<(), Fail> {
 fn each_fault_has_its_number(rt: HostRuntime) {
     assert_eq!(rt; Fault::Node.number(), 3);
     assert_eq!(rt; Fault::Role.number(), 11);
-    assert_eq!(rt; Fault::Node.layer(), Layer::Session);
-    assert_eq!(rt; Fault::Role.layer(), Layer::Session);
+    assert_eq!(rt; Fault::Node.origin(), "session");
+    assert_eq!(rt; Fault::Role.origin(), "session");
 }
