@@ -2,6 +2,7 @@
 use Rattle.std.proofs.Common.{rules, ◌≡◌, ℕ, ◌<◌, Bool, true, false, List, Result, Ok, Err, refl, sym, ap, subst, ◌∙◌, inl, inr, ◌⊎◌, arith}
 use Rattle.network.specs.Meaning.{Meaning}
 use Rattle.network.specs.Put.{put_answer, with_tie}
+use Rattle.network.specs.declared.faults.Fault.{Fault}
 use Rattle.measure.specs.Measures.{Operations, Laws}
 use Rattle.equivalence.specs.Regular.{Table}
 use Rattle.equivalence.specs.Coarsest.{Coarsest}
@@ -31,7 +32,7 @@ pub book_same : {m n : Meaning} {a b : Table} → m ≡ n → a ≡ b → ◌≡
 book_same e d = λ i. record { network = e i; colours = d i }
 
 -- no call adds a node or takes one
-put_nodes : (m : Meaning) (i j b : ℕ) (r : Result (Unit {0}) _) → (elim r as (λ _. Meaning) [ Ok _ ↦ with_tie m i j b | Err _ ↦ m ]).nodes ≡ m.nodes
+put_nodes : (m : Meaning) (i j b : ℕ) (r : Result (Unit {0}) Fault) → (elim r as (λ _. Meaning) [ Ok _ ↦ with_tie m i j b | Err _ ↦ m ]).nodes ≡ m.nodes
 put_nodes m i j b (Ok _) = refl
 put_nodes m i j b (Err _) = refl
 

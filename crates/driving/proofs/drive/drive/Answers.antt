@@ -109,7 +109,7 @@ pub returns-clause-named : goal.returns-clause-named
 returns-clause-named g c = coarsest_named g.M.Measure.ops g.met.M.Measure.lawful
 
 pub returns-clause-fewest : goal.returns-clause-fewest
-returns-clause-fewest g c = fewest g.M.Measure.ops g.met.M.Measure.lawful
+returns-clause-fewest g c = fewest g.M.Measure.ops
 
 pub returns-clause-laws : goal.returns-clause-laws
 returns-clause-laws g c = run_laws g.M.Measure.ops g.met.M.Measure.lawful
