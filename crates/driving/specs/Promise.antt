@@ -12,7 +12,6 @@
 use Rattle.std.specs.Prelude.{◌≡◌, ℕ, ◌+◌, ◌<◌, ◌≤◌, true, false, List, length, slice_get, slice_index, Ok, Some}
 use Rattle.network.specs.Meaning.{Meaning}
 use Rattle.measure.specs.Measures.{Operations}
-use Rattle.equivalence.specs.Regular.{Regular}
 use Rattle.equivalence.specs.Coarsest.{Coarsest}
 use Rattle.question.specs.declared.line.Line.{Line}
 use Rattle.session.specs.States.{State, IsSound, classes, role}

@@ -4,7 +4,6 @@ use Rattle.std.proofs.lemmas.List.{length-map, take_all}
 use Rattle.equivalence.proofs.Levels.{coarsest_named, levels_coarsest}
 use Rattle.equivalence.proofs.Refinement.{fewest}
 use Rattle.session.specs.SettledSessions.{settled_state}
-use Rattle.session.specs.States.{role}
 use Rattle.driving.specs.Book.{Book, book_in}
 use Rattle.driving.specs.Courses.{Course, calls_of, course_after, course_before, course_of, last_book}
 use Rattle.driving.specs.declared.call.Exchange.{Exchange}
