@@ -63,6 +63,11 @@ run g c =
     let P : ℕ → Type 0 = λ k. (run : RunTo g.M.Measure.ops m given c.loop-exchange.exchanges k) × (run.state k ≡ state_in c.loop-exchange.session) × (course_in c.loop-exchange.session ≡ course_before m given k) in
     subst P (at_end g c) (i.2.0, i.2.1, i.1)
 
+pub returns-clause-edits : goal.returns-clause-edits
+returns-clause-edits g c =
+    let (run, now, course) = run g c in
+    (run_laws g.M.Measure.ops g.met.M.Measure.lawful (g.N.Readable.meaning c.args.network) c.args.exchanges.now c.loop-exchange.exchanges run).edits
+
 pub returns-clause-driven : goal.returns-clause-driven
 returns-clause-driven g c =
     let (run, now, course) = run g c in
