@@ -20,7 +20,7 @@ mod looking;
 
 /// A session that takes put, colour and step. Either of put and colour brings the table back to the
 /// starting classes where it is accepted.
-#[derive(Drop)]
+#[derive(Debug, Drop)]
 pub struct Open<N: Editable, M: Measure> {
     network: N,
     measure: M,

@@ -16,7 +16,7 @@ mod splitting;
 
 // colours[x] is the colour of node x, role_of[x] its role; roles[r] has the lowest node of role r
 // and its size.
-#[derive(Drop)]
+#[derive(Debug, Drop)]
 pub(crate) struct Table {
     colours: [u8; 128],
     role_of: ArrayVec<u8, 128>,
