@@ -1,4 +1,4 @@
--- The number, the layer and the words of each refusal of a session. Assumes nothing.
+-- The number, the layer and the words of each refusal of a session.
 use Rattle.std.specs.Prelude.{ℕ, List, codes}
 use Rattle.network.specs.declared.faults.Layer.{Layer}
 use Rattle.session.specs.declared.faults.Fault.{Fault}
