@@ -46,7 +46,10 @@ fn steps<N: Editable + Drop, M: Measure + Drop>(
             fresh,
         } => {
             assert!(rt; !regular);
-            assert_eq!(rt; open.counts(), (counts.0.saturating_add(1), counts.1.saturating_add(1)));
+            assert_eq!(rt;
+                open.counts(),
+                (counts.0.saturating_add(1), counts.1.saturating_add(1))
+            );
             assert!(rt; is_head(rt, &old, part) && is_head(rt, &old, toward));
             let stayed = open.role_at(part).expect(rt, "a role");
             let left = open.role_at(fresh).expect(rt, "a role");
