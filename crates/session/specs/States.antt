@@ -18,7 +18,7 @@ use Rattle.equivalence.specs.Starting.{starting_classes}
 use Rattle.equivalence.specs.Coarsest.{Covers}
 use Rattle.equivalence.specs.Vetted.{table_of}
 use Rattle.session.specs.Roles.{Described}
-use Rattle.session.specs.Tables.{class_in, head_in}
+use Rattle.session.specs.Tables.{colour_in, head_in}
 use Rattle.session.specs.declared.role.Role.{Role}
 use Rattle.session.specs.declared.table.Table.{Table as RoleTable}
 
@@ -45,7 +45,7 @@ abbrev pub record_of : State → ℕ → Role
 record_of s r = record { head = s.head r; size = count_below (members (role s) r) s.network.nodes }
 
 abbrev pub state_with : Meaning → RoleTable → State
-state_with m t = record { network = m; colours = class_in t; table = t.role_of.items; head = head_in t; splits = t.splits }
+state_with m t = record { network = m; colours = colour_in t; table = t.role_of.items; head = head_in t; splits = t.splits }
 
 pub record IsSound {V : Type 0} (o : Operations V) (s : State) : Type 0 where
   pub few : s.network.nodes ≤ 128
