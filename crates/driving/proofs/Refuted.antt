@@ -9,7 +9,6 @@ use Rattle.measure.specs.Measures.{Operations, Laws}
 use Rattle.equivalence.specs.Heads.{is_head}
 use Rattle.question.specs.Checks.{answer_start}
 use Rattle.question.specs.declared.line.Line.{Line}
-use Rattle.session.specs.Roles.{Ordered}
 use Rattle.session.specs.States.{State, IsSound, record_of, role, role_count}
 use Rattle.session.specs.Tellings.{role_answer, record_answer}
 use Rattle.session.specs.declared.faults.Fault.{Fault}
@@ -30,12 +29,12 @@ use Rattle.driving.proofs.RunLaws.{accepted_in, run_laws}
 roles_few : (s : State) → role_count s ≤ s.network.nodes
 roles_few s = count_below_le (is_head (role s)) s.network.nodes
 
--- where roles are numbered in the order of their heads, node 0 is of role 0
-role_of_node_0 : {V : Type 0} {o : Operations V} (s : State) → Ordered (role_count s) s.head → IsSound o s → 0 < s.network.nodes → role s 0 ≡ 0
-role_of_node_0 s ordered sound some =
+-- node 0 is of role 0
+role_of_node_0 : {V : Type 0} {o : Operations V} (s : State) → IsSound o s → 0 < s.network.nodes → role s 0 ≡ 0
+role_of_node_0 s sound some =
     let known = sound.ranged 0 some in
     elim (cases_lt 0 (role s 0)) [
-      | inl above ↦ absurd ((sound.described (role s 0) known).lowest 0 (omega (arith, ordered 0 (role s 0) above known)) refl)
+      | inl above ↦ absurd ((sound.described (role s 0) known).lowest 0 (omega (arith, sound.ordered 0 (role s 0) above known)) refl)
       | inr past ↦ omega (arith, past)
     ]
 
@@ -97,4 +96,4 @@ module _ {V : Type 0} (o : Operations V) (laws : Laws o) (m : Meaning) where
         let is = (run_laws o laws m coloured done run).tells 1 (Tell.Role 0) (Reply.Role (Ok v)) (omega arith) (1, record b { call = Call.Tell (Tell.Role 0) }, told, (omega arith, λ j x c d. absurd (omega (arith, c, d))), refl, there, refl, tells) in
         let sound = run.sound 1 (omega arith) in
         let (known, here_is) = told_record s 0 v is in
-        (sound.described 0 known).lowest 0 (omega (arith, other, ap (λ (w : role_record.Role). w.head) here_is)) (role_of_node_0 s begun.ordered sound (omega (arith, next)))
+        (sound.described 0 known).lowest 0 (omega (arith, other, ap (λ (w : role_record.Role). w.head) here_is)) (role_of_node_0 s sound (omega (arith, next)))

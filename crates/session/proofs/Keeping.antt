@@ -40,6 +40,7 @@ module _ (t : RoleTable) {V : Type 0} (o : Operations V) (m : Meaning) where
           described = λ r l.
               let told = t.recorded.described r (omega (arith, numbered t m.nodes fits)) in
               record { node = omega (arith, fits, told.node); mate = told.mate; lowest = told.lowest; size = refl };
+          ordered = rw (numbered t m.nodes fits) at t.recorded.ordered;
           covers = covers;
           counted = tallied;
         }
@@ -71,7 +72,6 @@ begun m t start colours is =
       network = refl;
       colours = is;
       start = λ x l. rw is at (start.heads x l);
-      ordered = rw (numbered t m.nodes start.nodes) at t.recorded.ordered;
       splits = start.splits;
     }
 

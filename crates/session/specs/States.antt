@@ -17,7 +17,7 @@ use Rattle.equivalence.specs.Heads.{head_of, roles}
 use Rattle.equivalence.specs.Starting.{starting_classes}
 use Rattle.equivalence.specs.Coarsest.{Covers}
 use Rattle.equivalence.specs.Vetted.{table_of}
-use Rattle.session.specs.Roles.{Described}
+use Rattle.session.specs.Roles.{Described, Ordered}
 use Rattle.session.specs.Tables.{colour_in, head_in}
 use Rattle.session.specs.declared.role.Role.{Role}
 use Rattle.session.specs.declared.table.Table.{Table as RoleTable}
@@ -51,9 +51,10 @@ pub record IsSound {V : Type 0} (o : Operations V) (s : State) : Type 0 where
   pub few : s.network.nodes ≤ 128
   -- the table has an entry for each node
   pub entries : length s.table ≡ s.network.nodes
-  -- roles are numbered from 0, each has a node, and its head is the lowest
+  -- roles are numbered from 0 in the order of their heads; each has a node, and its head is the lowest
   pub ranged : (x : ℕ) → x < s.network.nodes → role s x < role_count s
   pub described : (r : ℕ) → r < role_count s → Described s.network.nodes (role s) r (record_of s r)
+  pub ordered : Ordered (role_count s) s.head
   -- within the starting classes, and every regular table within them refines it
   pub covers : Covers o s.network (classes s) (role s)
   -- splits are roles minus starting classes
