@@ -4,9 +4,9 @@ use super::tables::head;
 use super::totals::Weighing;
 use super::trouble::Trouble;
 use super::truth::{answered, truths};
-use measure::interface::Measure;
+use measure::Measure;
 use network::Editable;
-use question::line::Line;
+use question::Line;
 use session::settled::Settled;
 use std::alloc::AllocError;
 
@@ -53,7 +53,7 @@ fn hold_answer(
     asked: &str,
     question: &[Line],
     places: &[usize],
-    given: Result<usize, question::faults::Fault>,
+    given: Result<usize, question::Fault>,
     area: &[u8; ROOM],
 ) -> Result<(), Trouble> {
     let wanted = answered(case, question, places, &[7; ROOM])?;

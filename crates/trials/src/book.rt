@@ -1,6 +1,8 @@
 // A network with its colours, as the model keeps it: a plain byte for each pair of nodes.
+use driving::call::{Edit, Reply};
 use network::Fault as NetworkFault;
 use session::faults::Fault as SessionFault;
+use std::alloc::{AllocError, Global};
 
 /// No network of the trials has more nodes.
 pub(crate) const MOST: usize = 9;
@@ -94,11 +96,33 @@ impl Book {
         Ok(())
     }
 
-    /// The network after these puts, of which some may be refused.
-    pub(crate) fn after_puts(self, puts: &[Tie]) -> Book {
+    /// Each pair that is tied, with its byte.
+    pub(crate) fn ties(&self, heap: Global) -> Result<Vec<Tie>, AllocError> {
+        let mut ties = Vec::new(heap);
+        for from in 0..self.nodes {
+            for to in 0..self.nodes {
+                let byte = self.tie(from, to);
+                if byte > 0 {
+                    ties.push(Tie { from, to, byte })?;
+                }
+            }
+        }
+        Ok(ties)
+    }
+
+    /// A put or a colour, with what it replies.
+    pub(crate) fn edit(&mut self, edit: Edit) -> Reply {
+        match edit {
+            Edit::Put(i, j, b) => Reply::Put(self.put(i, j, b)),
+            Edit::Colour(i, c) => Reply::Colour(self.colour(i, c)),
+        }
+    }
+
+    /// The network after these edits, of which some may be refused.
+    pub(crate) fn after(self, edits: &[Edit]) -> Book {
         let mut book = self;
-        for &Tie { from, to, byte } in puts {
-            let _ = book.put(from, to, byte);
+        for &edit in edits {
+            let _ = book.edit(edit);
         }
         book
     }

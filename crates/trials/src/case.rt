@@ -2,6 +2,7 @@
 use super::book::Book;
 use super::drawing::Drawing;
 use super::shapes::Shape;
+use super::tables::role_count;
 use super::totals::Weighing;
 use super::trouble::Trouble;
 use std::alloc::{AllocError, Global};
@@ -40,6 +41,11 @@ impl Case {
             book: self.book.coloured(colours),
             ..self
         }
+    }
+
+    /// How many splits lead to the table from the starting classes.
+    pub(crate) fn splits_to(self, table: &[u8]) -> usize {
+        role_count(table).saturating_sub(role_count(self.book.colours()))
     }
 
     /// The difference in so many words, or want of memory for them.

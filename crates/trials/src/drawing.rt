@@ -1,6 +1,7 @@
 // How a network of a shape comes to its ties: some are put below a layer, the others through it.
 use super::book::{Book, Tie};
 use super::shapes::Shape;
+use driving::call::Edit;
 use std::alloc::{AllocError, Global};
 
 #[derive(Drop)]
@@ -10,9 +11,9 @@ pub(crate) struct Drawing {
     pub(crate) below: Vec<Tie>,
     /// The network with these.
     pub(crate) start: Book,
-    /// What is then put, in order.
-    pub(crate) puts: Vec<Tie>,
-    /// The network with the puts that it takes.
+    /// What it is then given, in order.
+    pub(crate) edits: Vec<Edit>,
+    /// The network after the edits that it takes.
     pub(crate) book: Book,
 }
 
@@ -28,6 +29,27 @@ fn chosen(heap: Global, shape: Shape, ties: &[Tie], below: bool) -> Result<Vec<T
 }
 
 impl Drawing {
+    // With these ties below.
+    fn over(shape: Shape, nodes: usize, below: Vec<Tie>, edits: Vec<Edit>) -> Drawing {
+        let mut start = shape.untied(nodes);
+        for &Tie { from, to, byte } in &below {
+            start.set(from, to, byte);
+        }
+        let book = start.after(&edits);
+        Drawing {
+            shape,
+            below,
+            start,
+            edits,
+            book,
+        }
+    }
+
+    /// The network of the shape after these edits.
+    pub(crate) fn by(heap: Global, shape: Shape, nodes: usize, edits: Vec<Edit>) -> Drawing {
+        Drawing::over(shape, nodes, Vec::new(heap), edits)
+    }
+
     /// The network of the shape with these ties.
     pub(crate) fn of(
         heap: Global,
@@ -36,18 +58,10 @@ impl Drawing {
         ties: &[Tie],
     ) -> Result<Drawing, AllocError> {
         let below = chosen(heap, shape, ties, true)?;
-        let mut start = shape.untied(nodes);
-        for &Tie { from, to, byte } in &below {
-            start.set(from, to, byte);
+        let mut edits = Vec::new(heap);
+        for &Tie { from, to, byte } in &chosen(heap, shape, ties, false)? {
+            edits.push(Edit::Put(from, to, byte))?;
         }
-        let puts = chosen(heap, shape, ties, false)?;
-        let book = start.after_puts(&puts);
-        Ok(Drawing {
-            shape,
-            below,
-            start,
-            puts,
-            book,
-        })
+        Ok(Drawing::over(shape, nodes, below, edits))
     }
 }

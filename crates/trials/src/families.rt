@@ -61,7 +61,7 @@ impl Family {
         for from in 0..self.nodes {
             for to in 0..self.nodes {
                 let pair = Tie { from, to, byte: 0 };
-                if self.shape.allows(from, to) || self.shape.is_below(pair) {
+                if self.shape.holds(pair) {
                     pairs.push(pair)?;
                 }
             }
@@ -111,6 +111,7 @@ impl Common {
                 drawing,
                 coarsest,
                 vetted,
+                irregular: &[],
             };
             settling.hold()?;
             counts.settled = counts.settled.saturating_add(1);

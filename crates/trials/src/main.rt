@@ -32,9 +32,7 @@ mod settling;
 mod counts;
 // Every small network of a shape.
 mod families;
-// The small networks whose tables are known.
-mod small;
-// These networks on each shape.
+// The small networks with known tables, on each shape.
 mod known;
 // Random numbers from a seed.
 mod dice;
@@ -42,8 +40,6 @@ mod dice;
 mod questions;
 // Lists of calls, drawn at random.
 mod turns;
-// The numbers that roles can have after a settle.
-mod numberings;
 // What the calls that alter nothing tell.
 mod told;
 // A list of calls replayed by the model.

@@ -1,6 +1,6 @@
 // Questions, drawn at random: right ones, and ones that are refused.
 use super::dice::Dice;
-use question::line::Line;
+use question::Line;
 use std::alloc::{AllocError, Global};
 
 /// The colours that are drawn.

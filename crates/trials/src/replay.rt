@@ -1,13 +1,12 @@
 // A list of calls replayed by a plain model of the session, which holds each reply and each area.
 use super::case::Case;
-use super::numberings::numbered;
 use super::search::Search;
 use super::steps::{Stepped, after_step};
-use super::tables::{in_order, role_count};
-use super::told::telling;
+use super::tables::in_order;
+use super::told::{Told, telling, writing};
 use super::trouble::Trouble;
-use super::turns::{Choice, Turn};
-use driving::call::Reply;
+use super::turns::Turn;
+use driving::call::{Call, Move, Reply, Write};
 use std::alloc::AllocError;
 
 #[derive(Drop)]
@@ -16,10 +15,8 @@ pub(crate) struct Replay<'a> {
     pub(crate) case: Case,
     /// Every table of so many nodes.
     tables: &'a [Vec<u8>],
-    /// The tables that the session may have. They agree with all that was told, and differ in the
-    /// numbers of roles that a settle made.
-    pub(crate) candidates: Vec<Vec<u8>>,
-    splits: usize,
+    /// The table that the session has.
+    pub(crate) table: Vec<u8>,
     settled: bool,
     /// How many lists went before, and how many calls of this one.
     list: usize,
@@ -33,25 +30,19 @@ impl<'a> Replay<'a> {
         tables: &'a [Vec<u8>],
         list: usize,
     ) -> Result<Replay<'a>, AllocError> {
-        let mut replay = Replay {
+        Ok(Replay {
             case,
             tables,
-            candidates: Vec::new(case.heap),
-            splits: 0,
+            table: in_order(case.heap, case.book.colours())?,
             settled: false,
             list,
             at: 0,
-        };
-        replay.restart()?;
-        Ok(replay)
+        })
     }
 
-    // Back at the starting classes, whose roles are numbered in the order of their lowest nodes.
+    // Back at the starting classes.
     fn restart(&mut self) -> Result<(), AllocError> {
-        let heap = self.case.heap;
-        let classes = in_order(heap, self.case.book.colours())?;
-        self.candidates = vec![in heap; classes]?;
-        self.splits = 0;
+        self.table = in_order(self.case.heap, self.case.book.colours())?;
         Ok(())
     }
 
@@ -63,7 +54,7 @@ impl<'a> Replay<'a> {
         self.settle()
     }
 
-    // On to the coarsest table, in which each role that there was keeps number and head.
+    // On to the coarsest table.
     fn settle(&mut self) -> Result<(), Trouble> {
         let case = self.case;
         let heap = case.heap;
@@ -72,97 +63,66 @@ impl<'a> Replay<'a> {
         let Some(coarsest) = search.coarsest(colours) else {
             return Err(case.differs(format!(in heap; "no table is coarsest of {colours:?}")));
         };
-        let mut settled = Vec::new(heap);
-        for table in &self.candidates {
-            settled.append(&mut numbered(heap, table, coarsest)?)?;
-        }
-        self.candidates = settled;
-        self.splits = role_count(coarsest).saturating_sub(role_count(colours));
+        self.table = in_order(heap, coarsest)?;
         self.settled = true;
         Ok(())
     }
 
-    // The candidates after the step that was told, none where it is wrong.
-    fn stepped(&self, reply: Reply) -> Result<Vec<Vec<u8>>, AllocError> {
-        let mut next = Vec::new(self.case.heap);
-        for table in &self.candidates {
-            let Reply::Step(step) = reply else {
-                break;
-            };
-            match after_step(&self.case, table, step)? {
-                Stepped::Stable => next.push(table.clone()?)?,
-                Stepped::Split(table) => next.push(table)?,
-                Stepped::Wrong => {}
-            }
-        }
-        Ok(next)
-    }
-
-    // The candidates that agree with what was told.
-    fn agreeing(&self, turn: &Turn, reply: Reply, area: &[u8]) -> Result<Vec<Vec<u8>>, AllocError> {
-        let mut agreeing = Vec::new(self.case.heap);
-        for table in &self.candidates {
-            let told = telling(&self.case, table, self.splits, turn)?;
-            if told.reply == reply && told.area.as_slice() == area {
-                agreeing.push(table.clone()?)?;
-            }
-        }
-        Ok(agreeing)
-    }
-
-    // Takes a reply that depends on the table, if it fits one that the session may have.
-    fn narrow(&mut self, turn: &Turn, reply: Reply, area: &[u8]) -> Result<(), Trouble> {
-        let next = match turn.choice {
-            Choice::Step => self.stepped(reply)?,
-            _ => self.agreeing(turn, reply, area)?,
+    // Whether the reply is a step that the table allows, and on to the table after it.
+    fn step(&mut self, reply: Reply) -> Result<bool, AllocError> {
+        let Reply::Step(step) = reply else {
+            return Ok(false);
         };
-        let Some(table) = next.first() else {
-            return Err(self.differs(turn, reply, area));
-        };
-        let classes = role_count(self.case.book.colours());
-        self.splits = role_count(table).saturating_sub(classes);
-        self.candidates = next;
-        Ok(())
+        match after_step(&self.case, &self.table, step)? {
+            Stepped::Stable => {}
+            Stepped::Split(table) => self.table = table,
+            Stepped::Wrong => return Ok(false),
+        }
+        Ok(true)
     }
 
     // Whether the session's state takes the call.
-    fn takes(&self, choice: Choice) -> bool {
-        match choice {
-            Choice::Put(..) | Choice::Colour(..) | Choice::Step | Choice::Settle => !self.settled,
-            Choice::Ask | Choice::Reopen => self.settled,
-            _ => true,
+    fn takes(&self, call: Call<'_>) -> bool {
+        match call {
+            Call::Edit(_) | Call::Move(Move::Step | Move::Settle) => !self.settled,
+            Call::Move(Move::Reopen) | Call::Write(Write::Ask(_)) => self.settled,
+            Call::Write(Write::Look(_)) | Call::Tell(_) => true,
         }
     }
 
-    // The reply that is due, where the call alone tells it; and the ties and colours after it.
-    fn due(&mut self, choice: Choice) -> Option<Reply> {
-        if !self.takes(choice) {
-            return Some(Reply::NotTaken);
-        }
-        match choice {
-            Choice::Put(i, j, b) => Some(Reply::Put(self.case.book.put(i, j, b))),
-            Choice::Colour(i, c) => Some(Reply::Colour(self.case.book.colour(i, c))),
-            Choice::Settle => Some(Reply::Settled),
-            Choice::Reopen => Some(Reply::Reopened),
-            _ => None,
-        }
+    // What the call is to reply and leave, and the ties and colours after it. None of a step, which
+    // is free in what it splits.
+    fn due(&mut self, turn: &Turn) -> Result<Option<Told>, AllocError> {
+        let call = turn.call();
+        let reply = match call {
+            _ if !self.takes(call) => Reply::NotTaken,
+            Call::Edit(edit) => self.case.book.edit(edit),
+            Call::Move(Move::Step) => return Ok(None),
+            Call::Move(Move::Settle) => Reply::Settled,
+            Call::Move(Move::Reopen) => Reply::Reopened,
+            Call::Write(write) => {
+                return writing(&self.case, &self.table, write, &turn.area).map(Some);
+            }
+            Call::Tell(tell) => telling(&self.case, &self.table, tell),
+        };
+        let area = turn.area.clone()?;
+        Ok(Some(Told { reply, area }))
     }
 
     /// Takes a call, with what the engine replied and left in the area.
     pub(crate) fn take(&mut self, turn: &Turn, reply: Reply, area: &[u8]) -> Result<(), Trouble> {
-        let choice = turn.choice;
-        let due = self.due(choice);
-        let differs = due.is_some_and(|wanted| reply != wanted);
-        let asks = matches!(choice, Choice::Look | Choice::Ask) && due.is_none();
-        if differs || !asks && area != turn.area.as_slice() {
+        let fits = match self.due(turn)? {
+            Some(due) => reply == due.reply && area == due.area.as_slice(),
+            None => area == turn.area.as_slice() && self.step(reply)?,
+        };
+        if !fits {
             return Err(self.differs(turn, reply, area));
         }
-        match due {
-            Some(Reply::Put(Ok(())) | Reply::Colour(Ok(()))) => self.restart()?,
-            Some(Reply::Settled) => self.settle()?,
-            Some(Reply::Reopened) => self.settled = false,
-            Some(_) => {}
-            None => self.narrow(turn, reply, area)?,
+        match reply {
+            Reply::Put(Ok(())) | Reply::Colour(Ok(())) => self.restart()?,
+            Reply::Settled => self.settle()?,
+            Reply::Reopened => self.settled = false,
+            _ => {}
         }
         self.at = self.at.saturating_add(1);
         Ok(())
@@ -173,9 +133,9 @@ impl<'a> Replay<'a> {
         let heap = self.case.heap;
         let list = self.list;
         let at = self.at;
-        let tables = self.candidates.as_slice();
+        let table = self.table.as_slice();
         self.case.differs(format!(in heap;
-            "list {list}, call {at}, table {tables:?}: {turn:?} gives {reply:?}, leaves {area:?}"
+            "list {list}, call {at}, table {table:?}: {turn:?} gives {reply:?}, leaves {area:?}"
         ))
     }
 }

@@ -1,15 +1,16 @@
 // A network settled from one colouring, whole and step by step, with a question put to its roles.
 use super::asking::hold_question;
-use super::book::Tie;
 use super::case::{At, Case};
 use super::drawing::Drawing;
 use super::shapes::{Trial, run_on};
 use super::steps::{Stepped, after_step};
-use super::tables::{head, in_order};
+use super::tables::{in_order, role_headed};
 use super::tellings::hold_roles;
 use super::trouble::Trouble;
-use super::vets::hold_vets;
-use measure::interface::Measure;
+use super::vets::{hold_irregular, hold_vets};
+use driving::call::{Edit, Reply};
+use driving::known::Irregular;
+use measure::Measure;
 use network::{Editable, Readable};
 use session::open::Open;
 use session::settled::Settled;
@@ -26,6 +27,16 @@ pub(crate) struct Settling<'a> {
     pub(crate) coarsest: &'a [u8],
     /// The tables that are vetted.
     pub(crate) vetted: &'a [Vec<u8>],
+    /// Tables that are known not to be regular.
+    pub(crate) irregular: &'a [Irregular],
+}
+
+// Gives the session a put or a colour.
+fn edit<N: Editable, M: Measure>(session: &mut Open<N, M>, edit: Edit) -> Reply {
+    match edit {
+        Edit::Put(i, j, b) => Reply::Put(session.put(i, j, b)),
+        Edit::Colour(i, c) => Reply::Colour(session.colour(i, c)),
+    }
 }
 
 impl Settling<'_> {
@@ -35,13 +46,12 @@ impl Settling<'_> {
         run_on(&case, self.drawing, self)
     }
 
-    // Gives the puts and the colours. Each is answered as the book answers it.
+    // Gives the edits, and then each colour. Each is answered as the book answers it.
     fn draw<N: Editable, M: Measure>(&self, session: &mut Open<N, M>) -> Result<(), Trouble> {
         let mut book = self.drawing.start;
-        for &Tie { from, to, byte } in &self.drawing.puts {
-            let wanted = book.put(from, to, byte);
-            let given = session.put(from, to, byte);
-            self.case.hold(At("a put from node", from), given, wanted)?;
+        for (at, &change) in self.drawing.edits.iter().enumerate() {
+            let given = edit(session, change);
+            self.case.hold(At("edit", at), given, book.edit(change))?;
         }
         for (x, &colour) in self.case.book.colours().iter().enumerate() {
             let given = session.colour(x, colour);
@@ -50,17 +60,17 @@ impl Settling<'_> {
         Ok(())
     }
 
-    // Each starting class is known by its number, which its head keeps.
-    fn hold_numbers<N: Editable, M: Measure>(
+    // Each head of the starting classes is still one.
+    fn hold_heads<N: Editable, M: Measure>(
         &self,
         settled: &Settled<N, M>,
         classes: &[u8],
     ) -> Result<(), Trouble> {
-        for (x, &class) in classes.iter().enumerate() {
-            if head(classes, class) == Some(x) {
-                let number = usize::from(class);
-                let given = settled.role_of(x);
-                self.case.hold(At("role_of", x), given, Ok(number))?;
+        for x in 0..classes.len() {
+            if role_headed(classes, x).is_some() {
+                let role = settled.role_of(x).and_then(|r| settled.role(r));
+                let given = role.map(|role| role.head);
+                self.case.hold(At("the head of node", x), given, Ok(x))?;
             }
         }
         Ok(())
@@ -85,7 +95,6 @@ impl Settling<'_> {
                     return Err(case.differs(what));
                 }
             }
-            case.hold("table after a step", session.table(), table.as_slice())?;
             hold_roles(case, session, &table)?;
         }
         Err(case.differs(format!(in heap; "steps do not end")))
@@ -102,17 +111,19 @@ impl Trial for Settling<'_> {
         let mut session = Open::new(network, measure);
         self.draw(&mut session)?;
         hold_vets(case, session.network(), &measure, self.vetted)?;
+        for irregular in self.irregular {
+            hold_irregular(case, session.network(), &measure, irregular)?;
+        }
         let settled = session.settle();
         hold_roles(case, &settled, self.coarsest)?;
         let classes = in_order(case.heap, case.book.colours())?;
-        self.hold_numbers(&settled, &classes)?;
+        self.hold_heads(&settled, &classes)?;
         hold_question(case, &settled)?;
         let mut session = settled.reopen();
         case.hold("a step of the settled", session.step(), Step::Stable)?;
         // A colour brings the table back to the starting classes, also where it was so before.
         let first = case.book.colours().first().copied().unwrap_or(0);
         case.hold("colour again", session.colour(0, first), Ok(()))?;
-        case.hold("table after a colour", session.table(), classes.as_slice())?;
         hold_roles(case, &session, &classes)?;
         self.step_through(&mut session, classes)
     }

@@ -4,10 +4,7 @@ use super::case::Case;
 use super::drawing::Drawing;
 use super::totals::Weighing;
 use super::trouble::Trouble;
-use measure::bundles::Bundles;
-use measure::interface::Measure;
-use measure::kinds::Kinds;
-use measure::tally::Tally;
+use measure::{Bundles, Kinds, Measure, Tally};
 use network::{Editable, Matrix, NoLoops, Slot, SlotList, Turned, TwoMode};
 use std::fmt;
 
@@ -75,6 +72,11 @@ impl Shape {
             Shape::Sides(a) => a.saturating_add(1),
             _ => 1,
         }
+    }
+
+    /// Whether the tie can be put, below the layer or through it.
+    pub(crate) fn holds(self, tie: Tie) -> bool {
+        self.is_below(tie) || self.allows(tie.from, tie.to)
     }
 
     /// Whether the tie is put below, before the layer goes over. Through turned half of them are.

@@ -1,9 +1,20 @@
 // Tables of roles: all of them, and how two compare.
 use std::alloc::{AllocError, Global};
 
+/// The number of a role as a table has it.
+pub(crate) fn label(role: usize) -> u8 {
+    u8::try_from(role).unwrap_or(u8::MAX)
+}
+
 /// The lowest node of a role.
 pub(crate) fn head(table: &[u8], role: u8) -> Option<usize> {
     table.iter().position(|&its| its == role)
+}
+
+/// The role that has this node for its head.
+pub(crate) fn role_headed(table: &[u8], x: usize) -> Option<u8> {
+    let &role = table.get(x)?;
+    (head(table, role) == Some(x)).then_some(role)
 }
 
 /// How many nodes a role has.
@@ -13,10 +24,8 @@ pub(crate) fn size(table: &[u8], role: u8) -> usize {
 
 /// How many roles there are.
 pub(crate) fn role_count(table: &[u8]) -> usize {
-    table
-        .iter()
-        .enumerate()
-        .filter(|&(x, &role)| head(table, role) == Some(x))
+    (0..table.len())
+        .filter(|&x| role_headed(table, x).is_some())
         .count()
 }
 
@@ -26,12 +35,7 @@ pub(crate) fn refines(first: &[u8], second: &[u8]) -> bool {
     pairs().all(|(a, b)| pairs().all(|(c, d)| a != c || b == d))
 }
 
-/// Whether the same nodes share a role in both.
-pub(crate) fn same_roles(first: &[u8], second: &[u8]) -> bool {
-    first.len() == second.len() && refines(first, second) && refines(second, first)
-}
-
-/// The table with its roles numbered in the order of their lowest nodes.
+/// The table with its roles numbered in the order of their heads.
 pub(crate) fn in_order(heap: Global, table: &[u8]) -> Result<Vec<u8>, AllocError> {
     let mut ordered: Vec<u8> = Vec::new(heap);
     let mut fresh = 0u8;
@@ -51,7 +55,7 @@ fn add_each(heap: Global, table: &[u8], longer: &mut Vec<Vec<u8>>) -> Result<(),
     for role in 0..=role_count(table) {
         let mut next = Vec::new(heap);
         next.extend_from_slice(table)?;
-        next.push(u8::try_from(role).unwrap_or(u8::MAX))?;
+        next.push(label(role))?;
         longer.push(next)?;
     }
     Ok(())
@@ -66,7 +70,7 @@ fn longer(heap: Global, tables: &[Vec<u8>]) -> Result<Vec<Vec<u8>>, AllocError> 
     Ok(longer)
 }
 
-/// Every table of n nodes, once: 1, 2, 5, 15 and 52 for 1 to 5 nodes.
+/// Every table of n nodes, once, its roles in order: 1, 2, 5, 15 and 52 for 1 to 5 nodes.
 pub(crate) fn all_tables(heap: Global, nodes: usize) -> Result<Vec<Vec<u8>>, AllocError> {
     let mut tables = Vec::new(heap);
     tables.push(Vec::new(heap))?;

@@ -1,9 +1,8 @@
 // What a session tells of its roles, held against the table that it is to have.
 use super::case::{At, Case};
-use super::steps::label;
-use super::tables::{head, role_count, same_roles, size};
+use super::tables::{head, in_order, label, role_count, size};
 use super::trouble::Trouble;
-use measure::interface::Measure;
+use measure::Measure;
 use network::Editable;
 use session::faults::Fault;
 use session::open::Open;
@@ -96,18 +95,12 @@ fn hold_records<S: Tells>(case: &Case, session: &S) -> Result<(), Trouble> {
     case.hold(At("role", count), session.record(count), Err(Fault::Role))
 }
 
-/// Holds all that a session tells: these nodes are to be together, whatever the roles' numbers.
+/// Holds all that a session tells: it is to have this table, its roles in order.
 pub(crate) fn hold_roles<S: Tells>(case: &Case, session: &S, wanted: &[u8]) -> Result<(), Trouble> {
-    let heap = case.heap;
-    let table = session.numbers();
-    if !same_roles(table, wanted) {
-        return Err(case.differs(format!(in heap; "the roles are {table:?}, and not {wanted:?}")));
-    }
-    let count = role_count(wanted);
-    case.hold("roles", session.count(), count)?;
-    let classes = role_count(case.book.colours());
-    let splits = count.saturating_sub(classes);
-    case.hold("splits", session.split_count(), splits)?;
+    let ordered = in_order(case.heap, wanted)?;
+    case.hold("table", session.numbers(), ordered.as_slice())?;
+    case.hold("roles", session.count(), role_count(wanted))?;
+    case.hold("splits", session.split_count(), case.splits_to(wanted))?;
     hold_nodes(case, session)?;
     hold_records(case, session)
 }

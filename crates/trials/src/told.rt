@@ -1,11 +1,9 @@
-// What the calls that alter nothing tell, where the session has a given table.
+// What the calls that alter nothing reply and leave, where the session has a given table.
 use super::asking::{heads, nodes};
 use super::case::Case;
-use super::steps::label;
-use super::tables::{head, role_count, size};
+use super::tables::{head, label, role_count, size};
 use super::truth::{Answer, answered};
-use super::turns::{Choice, Turn};
-use driving::call::Reply;
+use driving::call::{Reply, Tell, Write};
 use session::faults::Fault;
 use session::role::Role;
 use std::alloc::AllocError;
@@ -29,36 +27,36 @@ fn record(table: &[u8], r: usize) -> Result<Role, Fault> {
     }
 }
 
-// What a look or an ask replies and leaves, with a byte for each of these nodes in a row.
-fn asked(case: &Case, turn: &Turn, places: &[usize]) -> Result<Told, AllocError> {
-    let Answer { start, area } = answered(case, &turn.question, places, &turn.area)?;
-    let reply = match turn.choice {
-        Choice::Ask => Reply::Ask(start),
-        _ => Reply::Look(start),
-    };
-    Ok(Told { reply, area })
-}
-
-/// What a call tells. One that alters the session is not told of here.
-pub(crate) fn telling(
-    case: &Case,
-    table: &[u8],
-    splits: usize,
-    turn: &Turn,
-) -> Result<Told, AllocError> {
-    let reply = match turn.choice {
-        Choice::Look => return asked(case, turn, &nodes(case)?),
-        Choice::Ask => return asked(case, turn, &heads(case, table)?),
-        Choice::Roles => Reply::Roles(role_count(table)),
-        Choice::Splits => Reply::Splits(splits),
-        Choice::RoleOf(x) => {
+/// What a call that writes nothing replies.
+pub(crate) fn telling(case: &Case, table: &[u8], tell: Tell) -> Reply {
+    match tell {
+        Tell::Roles => Reply::Roles(role_count(table)),
+        Tell::Splits => Reply::Splits(case.splits_to(table)),
+        Tell::RoleOf(x) => {
             let role = table.get(x).map(|&role| usize::from(role));
             Reply::RoleOf(role.ok_or(Fault::Node))
         }
-        Choice::Role(r) => Reply::Role(record(table, r)),
-        Choice::Put(..) | Choice::Colour(..) | Choice::Step => Reply::NotTaken,
-        Choice::Settle | Choice::Reopen => Reply::NotTaken,
-    };
-    let area = turn.area.clone()?;
-    Ok(Told { reply, area })
+        Tell::Role(r) => Reply::Role(record(table, r)),
+    }
+}
+
+/// What a look or an ask replies, and leaves in the area that it is lent.
+pub(crate) fn writing(
+    case: &Case,
+    table: &[u8],
+    write: Write<'_>,
+    lent: &[u8],
+) -> Result<Told, AllocError> {
+    match write {
+        Write::Look(question) => {
+            let Answer { start, area } = answered(case, question, &nodes(case)?, lent)?;
+            let reply = Reply::Look(start);
+            Ok(Told { reply, area })
+        }
+        Write::Ask(question) => {
+            let Answer { start, area } = answered(case, question, &heads(case, table)?, lent)?;
+            let reply = Reply::Ask(start);
+            Ok(Told { reply, area })
+        }
+    }
 }

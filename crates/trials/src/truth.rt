@@ -1,8 +1,7 @@
 // What a question is true of, node by node, and what look and ask are to leave in an area.
 use super::case::Case;
 use super::totals::total_toward;
-use question::faults::Fault;
-use question::line::Line;
+use question::{Fault, Line};
 use std::alloc::AllocError;
 
 // Whether line k is true of node x.

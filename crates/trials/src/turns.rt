@@ -2,8 +2,8 @@
 use super::dice::Dice;
 use super::questions::{COLOURS, any_question};
 use super::shapes::Shape;
-use driving::call::Call;
-use question::line::Line;
+use driving::call::{Call, Edit, Move, Tell, Write};
+use question::Line;
 use std::alloc::{AllocError, Global};
 
 /// A call without its question.
@@ -34,17 +34,17 @@ impl Turn {
     /// The call, as the engine takes it.
     pub(crate) fn call(&self) -> Call<'_> {
         match self.choice {
-            Choice::Put(i, j, b) => Call::Put(i, j, b),
-            Choice::Colour(i, c) => Call::Colour(i, c),
-            Choice::Step => Call::Step,
-            Choice::Settle => Call::Settle,
-            Choice::Reopen => Call::Reopen,
-            Choice::Look => Call::Look(&self.question),
-            Choice::Ask => Call::Ask(&self.question),
-            Choice::Roles => Call::Roles,
-            Choice::Splits => Call::Splits,
-            Choice::RoleOf(x) => Call::RoleOf(x),
-            Choice::Role(r) => Call::Role(r),
+            Choice::Put(i, j, b) => Call::Edit(Edit::Put(i, j, b)),
+            Choice::Colour(i, c) => Call::Edit(Edit::Colour(i, c)),
+            Choice::Step => Call::Move(Move::Step),
+            Choice::Settle => Call::Move(Move::Settle),
+            Choice::Reopen => Call::Move(Move::Reopen),
+            Choice::Look => Call::Write(Write::Look(&self.question)),
+            Choice::Ask => Call::Write(Write::Ask(&self.question)),
+            Choice::Roles => Call::Tell(Tell::Roles),
+            Choice::Splits => Call::Tell(Tell::Splits),
+            Choice::RoleOf(x) => Call::Tell(Tell::RoleOf(x)),
+            Choice::Role(r) => Call::Tell(Tell::Role(r)),
         }
     }
 }

@@ -1,12 +1,12 @@
 // The vet of every table of a network.
 use super::book::MOST;
-use super::case::Case;
+use super::case::{At, Case};
 use super::search::is_regular;
 use super::totals::total_toward;
 use super::trouble::Trouble;
-use equivalence::faults::Fault;
-use equivalence::vetting::vet;
-use measure::interface::Measure;
+use driving::known::Irregular;
+use equivalence::{Fault, vet};
+use measure::Measure;
 use network::Readable;
 use std::alloc::AllocError;
 
@@ -47,6 +47,27 @@ fn hold_vet<N: Readable, M: Measure>(
 // The same table under other names.
 fn renamed(case: &Case, table: &[u8]) -> Result<Vec<u8>, AllocError> {
     table.iter().map(|&role| u8::MAX - role).collect(case.heap)
+}
+
+/// Holds the vet of a table that is known not to be regular, and that no other three nodes show it.
+pub(crate) fn hold_irregular<N: Readable, M: Measure>(
+    case: &Case,
+    network: &N,
+    measure: &M,
+    irregular: &Irregular,
+) -> Result<(), Trouble> {
+    let &Irregular { table, witness } = irregular;
+    let given = vet(network, measure, table);
+    case.hold("the vet of an irregular table", given, Ok(Some(witness)))?;
+    for x in 0..case.book.nodes {
+        for y in 0..case.book.nodes {
+            for z in 0..case.book.nodes {
+                let given = shows(case, table, x, y, z);
+                case.hold(At("showing by node", x), given, (x, y, z) == witness)?;
+            }
+        }
+    }
+    Ok(())
 }
 
 /// Holds the vet of every table under two names, and of one that is too long.
