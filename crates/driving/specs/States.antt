@@ -1,4 +1,4 @@
--- A session that takes calls, open or settled. Assumes nothing.
+-- A session that takes calls, open or settled.
 --
 --   is_settled   it has settled
 --   state_in     its state

@@ -2,10 +2,11 @@
 --
 --   row_bytes      a row of this width: 1 where it is true, 0 where it is not
 --   area_after     the rows one after another, and then what the area held; all that it held, where the question is refused
+--   row_at         the row of this width that starts here, none where the area does not reach so far
 --   looked         the area after look: a row has a column for each node
 --   asked          the area after ask: a row has a column for each role of a table, and its head stands for it
 --   NodesAnswered  row by row, an area has at the column of each node what the network answers for the node
-use Rattle.std.specs.Prelude.{◌≡◌, ℕ, ◌+◌, ◌*◌, ◌<◌, Bool, cond, List, ◌++◌, length, map, drop, flat_map, slice_index, Result, Ok, Err}
+use Rattle.std.specs.Prelude.{◌≡◌, ℕ, ◌+◌, ◌*◌, ◌<◌, Bool, cond, nat_le, List, [], ◌++◌, length, map, take, drop, flat_map, slice_index, Result, Ok, Err}
 use Rattle.std.specs.List.{range_with_len}
 use Rattle.network.specs.Meaning.{Meaning}
 use Rattle.measure.specs.Measures.{Operations}
@@ -21,6 +22,9 @@ row_bytes width row = map (λ p. cond (row p) 1 0) (range_with_len 0 width)
 
 abbrev pub area_after : Result ℕ Fault → ℕ → List (ℕ → Bool) → List ℕ → List ℕ
 area_after start width rows area = elim start [ Ok _ ↦ flat_map (row_bytes width) rows ++ drop (length rows * width) area | Err _ ↦ area ]
+
+abbrev pub row_at : List ℕ → ℕ → ℕ → List ℕ
+row_at area start width = cond (nat_le (start + width) (length area)) (take width (drop start area)) []
 
 module _ {V : Type 0} (o : Operations V) (m : Meaning) (colours : Table) where
   abbrev pub looked : List Line → List ℕ → List ℕ

@@ -13,6 +13,7 @@
 pub use checking::check;
 pub use faults::Fault;
 pub use line::{Claim, Line};
+pub use rows::row_at;
 
 // A line, and what it claims.
 pub mod line;
@@ -20,5 +21,7 @@ pub mod line;
 pub mod faults;
 // Whether a question can be answered.
 pub mod checking;
+// The rows of an area.
+pub mod rows;
 #[cfg(test)]
 mod tests;

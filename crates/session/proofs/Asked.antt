@@ -1,7 +1,7 @@
 -- What the rows of an area say, after look and after ask.
-use Rattle.std.proofs.Common.{◌≡◌, ℕ, suc, ◌+◌, ◌-◌, ◌*◌, ◌<◌, ◌≤◌, Bool, cond, List, ◌++◌, length, get_or, take, drop, flat_map, slice_index, Bor, Result, Ok, Err, IfOk, refl, ap, sym, ◌∙◌, add-one, suc-mul, arith}
+use Rattle.std.proofs.Common.{◌≡◌, ℕ, suc, ◌+◌, ◌-◌, ◌*◌, ◌<◌, Bool, cond, List, ◌++◌, length, get_or, flat_map, slice_index, Result, Ok, Err, IfOk, refl, ap, sym, ◌∙◌, add-one, suc-mul, arith}
 use Rattle.std.proofs.Math.Nat.{mul-le-mul_right}
-use Rattle.std.proofs.lemmas.List.{get_or_append_left, get_or-take, get_or-drop, length-append, length-drop, length-take-le}
+use Rattle.std.proofs.lemmas.List.{get_or_append_left}
 use Rattle.network.specs.Meaning.{Meaning}
 use Rattle.measure.specs.Measures.{Operations, Laws}
 use Rattle.equivalence.specs.Regular.{Table, Regular}
@@ -13,10 +13,9 @@ use Rattle.question.specs.declared.faults.Fault.{Fault}
 use Rattle.question.proofs.Passing.{accepted}
 use Rattle.question.proofs.Rowing as rowing
 use Rattle.question.proofs.Agreement.{roles_answer, within_colours}
-use Rattle.session.specs.Marks.{LastRow}
-use Rattle.session.specs.Questions.{ask_answer, look_answer, after_ask, after_look, look_row, ask_row, AnswersNodes, AnswersRoles}
+use Rattle.session.specs.Questions.{ask_answer, look_answer, after_ask, after_look, AnswersNodes, AnswersRoles}
 use Rattle.session.specs.States.{State, IsSound, role, role_count}
-use Rattle.session.proofs.Rows.{read_row, length_rows, row_byte_is, row_filled}
+use Rattle.session.proofs.Rows.{read_row, length_rows}
 
 one_less : (n : ℕ) → 0 < n → suc (n - 1) ≡ n
 one_less n some = omega arith
@@ -34,30 +33,6 @@ module _ (lines : List Line) (width : ℕ) (area : List ℕ) (start : ℕ) (pass
   last_start =
       let (some, at_last) = accepted lines width (length area) start passes in
       omega (arith, some, at_last, suc-mul (length lines - 1) width, ap (λ k. k * width) (one_less (length lines) some))
-
-  module _ (truths : List (ℕ → Bool)) (long : length truths ≡ length lines) where
-    abbrev filled : List ℕ
-    filled = flat_map (row_bytes width) truths ++ drop (length truths * width) area
-
-    within : start + width ≤ length filled
-    within =
-        let (some, at_last) = accepted lines width (length area) start passes in
-        omega (arith, some, at_last, ap (λ k. k * width) long, mul-le-mul_right {m = 1} {n = length lines} width (omega (arith, some)), length-append (flat_map (row_bytes width) truths) (drop (length truths * width) area), length_rows width truths)
-
-    bytes : take width (drop start filled) ≡ row_bytes width (row truths (length lines - 1))
-    bytes =
-        let (some, at_last) = accepted lines width (length area) start passes in
-        row_filled width _ (take width (drop start filled))
-        (length-take-le width (drop start filled) (omega (arith, within, length-drop start filled)))
-        (λ p l.
-        get_or-take width (drop start filled) p 0 l
-        ∙ get_or-drop start filled p 0
-        ∙ ap (λ k. get_or filled (k + p) 0) last_start
-        ∙ row_byte width truths (drop (length truths * width) area) (length lines - 1) p (omega (arith, some, long)) l)
-
-    -- the last row stands here
-    pub last_row : LastRow width start (row truths (length lines - 1)) filled
-    last_row = record { within = within; bytes = bytes }
 
 module _ {V : Type 0} (o : Operations V) (m : Meaning) (colours : Table) (lines : List Line) where
   abbrev truths : Columns → List (ℕ → Bool)
@@ -118,15 +93,3 @@ pub look_agrees :
     → IfOk r (λ start. AnswersNodes o s lines start new)
 look_agrees o s lines area new (Err f) is after = tt
 look_agrees o s lines area new (Ok start) is after = rw after (look_answers o s lines area start (sym is))
-
--- of the last row of ask, the byte of a node's role is that of the node in the last row of look
-module _ {V : Type 0} (o : Operations V) (laws : Laws o) (s : State) (sound : IsSound o s) (regular : Regular o s.network (role s)) (lines : List Line) where
-  rows_agree : (x : ℕ) → x < s.network.nodes → slice_index (ask_row o s lines) (role s x) ≡ slice_index (look_row o s lines) x
-  rows_agree x l =
-      row_byte_is (role_count s) _ (role s x) (sound.ranged x l)
-      ∙ ap {B = ℕ} (λ b. cond b 1 0) (roles_answer o laws s.network s.colours (role s) s.head (quotient o s sound regular) lines (length lines - 1) x l)
-      ∙ sym (row_byte_is s.network.nodes _ x l)
-
-  pub ask_row_agrees : (r : Result (Bor (List ℕ)) Fault) → IfOk r (λ row. row.now ≡ ask_row o s lines) → IfOk r (λ row. (x : ℕ) → x < s.network.nodes → slice_index row.now (role s x) ≡ slice_index (look_row o s lines) x)
-  ask_row_agrees (Ok row) is = λ x l. rw is (rows_agree x l)
-  ask_row_agrees (Err f) is = tt

@@ -4,15 +4,12 @@
 --   ask_answer       where the last row of ask starts, or the refusal
 --   after_look       the area after look
 --   after_ask        the area after ask
---   look_row         the last row of look: what the question is true of, node by node
---   ask_row          the last row of ask: what it is true of, role by role
 --   AnswersNodes     the rows of look have the network's answer for each node
 --   AnswersRoles     the rows of ask have for each node's role the network's answer for the node
 use Rattle.std.specs.Prelude.{ℕ, List, length, Result}
 use Rattle.measure.specs.Measures.{Operations}
 use Rattle.question.specs.Checks.{answer_start}
-use Rattle.question.specs.Truth.{answer, each_node, each_role}
-use Rattle.question.specs.Areas.{row_bytes, looked, asked, NodesAnswered}
+use Rattle.question.specs.Areas.{looked, asked, NodesAnswered}
 use Rattle.question.specs.declared.line.Line.{Line}
 use Rattle.question.specs.declared.faults.Fault.{Fault}
 use Rattle.session.specs.States.{State, role, role_count}
@@ -29,12 +26,6 @@ module _ {V : Type 0} (o : Operations V) (s : State) (lines : List Line) where
 
   abbrev pub after_ask : List ℕ → List ℕ
   after_ask area = asked o s.network s.colours (role s) s.head lines area
-
-  abbrev pub look_row : List ℕ
-  look_row = row_bytes s.network.nodes (answer o s.network s.colours each_node lines)
-
-  abbrev pub ask_row : List ℕ
-  ask_row = row_bytes (role_count s) (answer o s.network s.colours (each_role (role s) s.head) lines)
 
   abbrev pub AnswersNodes : ℕ → List ℕ → Type 0
   AnswersNodes start area = NodesAnswered o s.network s.colours lines (λ x. x) s.network.nodes start area

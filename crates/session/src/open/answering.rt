@@ -8,7 +8,7 @@ ghost use Rattle.question.specs.Lines.{claim};
 ghost use Rattle.question.specs.Truth.{answer, line_row, rows};
 ghost use Rattle.question.specs.Areas.{area_after, row_bytes};
 ghost use Rattle.question.specs.declared.line.Claim.{Claim};
-ghost use Rattle.session.specs.Marks.{marked, LastRow, Written};
+ghost use Rattle.session.specs.Marks.{marked, Written};
 ghost use Rattle.session.specs.OpenSessions.{state_of};
 
 use super::super::columns::Columns;
@@ -123,33 +123,9 @@ impl<N: Editable, M: Measure> Open<N, M> {
             let at = C.columns columns.now in
             area.new ≡ area_after result (C.width columns.now)
             (rows M.Measure.ops s.network s.colours at question.now) area.old }
-        ensures last { let s = state_of self.now in
-            let at = C.columns columns.now in
-            let truth = answer M.Measure.ops s.network s.colours at question.now in
-            IfOk result (λ start. LastRow (C.width columns.now) start truth area.new) }
     {
         let start = check(question, columns.width(), area.len())?;
         self.write_rows(columns, question, area);
         Ok(start)
-    }
-
-    // The same, and lends the last row.
-    pub(crate) fn answer_row<'a, C: Columns>(
-        &self,
-        columns: &C,
-        question: &[Line],
-        area: &'a mut [u8],
-    ) -> Result<&'a [u8], Fault>
-        requires { C.nodes columns.now ≡ (state_of self.now).network.nodes }
-        ensures taken { let width = C.width columns.now in
-            MatchResult (answer_start question.now width (length area.old))
-            (λ _. IsOk result) (λ f. result ≡ Err f) }
-        ensures row { let s = state_of self.now in
-            let at = C.columns columns.now in
-            let truth = answer M.Measure.ops s.network s.colours at question.now in
-            IfOk result (λ row. row.now ≡ row_bytes (C.width columns.now) truth) }
-    {
-        let start = self.answer(columns, question, area)?;
-        Ok(&area[start..start + columns.width()])
     }
 }

@@ -1,10 +1,9 @@
 // What a session answers to a question: at each node, and at each role.
-ghost use Rattle.std.specs.Prelude.{◌≡◌, Err, IfOk, MatchResult};
-ghost use Rattle.std.specs.Result.{IsOk};
+ghost use Rattle.std.specs.Prelude.{◌≡◌, IfOk};
 ghost use Rattle.question.specs.Truth.{TruthLaw};
 ghost use Rattle.session.specs.OpenSessions.{state_of};
 ghost use Rattle.session.specs.Questions.{AnswersNodes, after_ask, after_look};
-ghost use Rattle.session.specs.Questions.{ask_answer, ask_row, look_answer, look_row};
+ghost use Rattle.session.specs.Questions.{ask_answer, look_answer};
 
 use super::super::columns::EachNode;
 use super::Open;
@@ -27,17 +26,6 @@ impl<N: Editable, M: Measure> Open<N, M> {
         self.answer(&EachNode::of(self.table.nodes()), question, area)
     }
 
-    /// Asks each node, and lends the last row: a byte for each node, 1 where the question is true
-    /// of it, and else 0. The area is as for `look`.
-    pub fn look_row<'a>(&self, question: &[Line], area: &'a mut [u8]) -> Result<&'a [u8], Fault>
-        ensures taken { MatchResult (look_answer (state_of self.now) question.now area.old)
-            (λ _. IsOk result) (λ f. result ≡ Err f) }
-        ensures row { let s = state_of self.now in
-            IfOk result (λ row. row.now ≡ look_row M.Measure.ops s question.now) }
-    {
-        self.answer_row(&EachNode::of(self.table.nodes()), question, area)
-    }
-
     // Asks each role, with its head in place of its nodes. Only a settled session's roles have the
     // network's answer, so its `ask` alone calls this.
     #[tactic(auto, using(crate::proofs::Keeping::numbered))]
@@ -47,20 +35,5 @@ impl<N: Editable, M: Measure> Open<N, M> {
             area.new ≡ after_ask M.Measure.ops s question.now area.old }
     {
         self.answer(&self.table, question, area)
-    }
-
-    // The same, and lends the last row.
-    #[tactic(auto, using(crate::proofs::Keeping::numbered))]
-    pub(crate) fn row_by_roles<'a>(
-        &self,
-        question: &[Line],
-        area: &'a mut [u8],
-    ) -> Result<&'a [u8], Fault>
-        ensures taken { MatchResult (ask_answer (state_of self.now) question.now area.old)
-            (λ _. IsOk result) (λ f. result ≡ Err f) }
-        ensures row { let s = state_of self.now in
-            IfOk result (λ row. row.now ≡ ask_row M.Measure.ops s question.now) }
-    {
-        self.answer_row(&self.table, question, area)
     }
 }

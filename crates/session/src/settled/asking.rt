@@ -1,11 +1,8 @@
 // What a settled session answers to a question.
-ghost use Rattle.std.specs.Prelude.{◌≡◌, ◌<◌, ℕ, slice_index, Err, IfOk, MatchResult};
-ghost use Rattle.std.specs.Result.{IsOk};
+ghost use Rattle.std.specs.Prelude.{◌≡◌, IfOk};
 ghost use Rattle.question.specs.Truth.{RolesAnswer};
 ghost use Rattle.session.specs.Questions.{AnswersNodes, AnswersRoles, after_ask};
-ghost use Rattle.session.specs.Questions.{after_look, ask_answer, ask_row};
-ghost use Rattle.session.specs.Questions.{look_answer, look_row};
-ghost use Rattle.session.specs.States.{role};
+ghost use Rattle.session.specs.Questions.{after_look, ask_answer, look_answer};
 ghost use Rattle.session.specs.SettledSessions.{settled_state};
 
 use super::Settled;
@@ -26,16 +23,6 @@ impl<N: Editable, M: Measure> Settled<N, M> {
         self.session.look(question, area)
     }
 
-    /// Asks each node, and lends the last row, as an open session does.
-    pub fn look_row<'a>(&self, question: &[Line], area: &'a mut [u8]) -> Result<&'a [u8], Fault>
-        ensures taken { MatchResult (look_answer (settled_state self.now) question.now area.old)
-            (λ _. IsOk result) (λ f. result ≡ Err f) }
-        ensures row { let s = settled_state self.now in
-            IfOk result (λ row. row.now ≡ look_row M.Measure.ops s question.now) }
-    {
-        self.session.look_row(question, area)
-    }
-
     /// Asks each role, with its head in place of its nodes: a row for each line, with a byte for
     /// each role. Tells where the last row starts.
     pub fn ask(&self, question: &[Line], area: &mut [u8]) -> Result<usize, Fault>
@@ -47,20 +34,5 @@ impl<N: Editable, M: Measure> Settled<N, M> {
             IfOk result (λ start. AnswersRoles M.Measure.ops s question.now start area.new) }
     {
         self.session.answer_by_roles(question, area)
-    }
-
-    /// Asks each role, and lends the last row: a byte for each role, and that of a node's role is
-    /// the byte that `look_row` has for the node. The area is as for `ask`.
-    pub fn ask_row<'a>(&self, question: &[Line], area: &'a mut [u8]) -> Result<&'a [u8], Fault>
-        ensures taken { MatchResult (ask_answer (settled_state self.now) question.now area.old)
-            (λ _. IsOk result) (λ f. result ≡ Err f) }
-        ensures row { let s = settled_state self.now in
-            IfOk result (λ row. row.now ≡ ask_row M.Measure.ops s question.now) }
-        ensures agrees { let s = settled_state self.now in
-            IfOk result (λ row. (x : ℕ) → x < s.network.nodes
-            → slice_index row.now (role s x)
-            ≡ slice_index (look_row M.Measure.ops s question.now) x) }
-    {
-        self.session.row_by_roles(question, area)
     }
 }

@@ -13,6 +13,7 @@ use network::turned::Turned;
 use network::two_mode::TwoMode;
 use question::faults::Fault;
 use question::line::Line;
+use question::rows::row_at;
 use std::alloc::Global;
 use std::array;
 use std::process::Abort;
@@ -32,6 +33,8 @@ fn holds<const W: usize>(
     }
     let end = rows.len().saturating_mul(W);
     assert_eq!(rt; start, Ok(end.saturating_sub(W)));
+    let last = row_at(area, start.unwrap_or(64), W);
+    assert_eq!(rt; Some(last), rows.last().map(|row| row.as_slice()));
     assert!(rt; area.iter().skip(end).all(|&byte| byte == 7));
 }
 
@@ -45,14 +48,10 @@ fn looks<N: Editable + Drop, M: Measure + Drop, const W: usize>(
     let mut area = [7; 64];
     let start = open.look(question, &mut area);
     holds(rt, &area, start, rows);
-    let last = open.look_row(question, &mut area);
-    assert_eq!(rt; last.ok(), rows.last().map(|row| row.as_slice()));
     let settled = open.settle();
     let mut area = [7; 64];
     let start = settled.look(question, &mut area);
     holds(rt, &area, start, rows);
-    let last = settled.look_row(question, &mut area);
-    assert_eq!(rt; last.ok(), rows.last().map(|row| row.as_slice()));
     settled
 }
 
@@ -66,8 +65,6 @@ fn asks<N: Editable + Drop, M: Measure + Drop, const W: usize>(
     let mut area = [7; 64];
     let start = settled.ask(question, &mut area);
     holds(rt, &area, start, rows);
-    let last = settled.ask_row(question, &mut area);
-    assert_eq!(rt; last.ok(), rows.last().map(|row| row.as_slice()));
 }
 
 #[test]
