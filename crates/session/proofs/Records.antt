@@ -12,16 +12,6 @@ use Rattle.session.specs.declared.role.Role.{Role}
 abbrev pub grown : Role → Role
 grown v = record { head = v.head; size = v.size + 1 }
 
-pub none : Recorded [] []
-none =
-    record {
-      few = omega arith;
-      packed = omega arith;
-      ranged = λ x l. absurd (omega arith);
-      described = λ r l. absurd (omega arith);
-      ordered = λ q r l known. absurd (omega arith);
-    }
-
 module _ (role_of : List ℕ) (roles : List Role) (was : Recorded role_of roles) where
   -- a role has no more nodes than there are
   pub size_le : (r : ℕ) → r < length roles → (record_at roles r).size ≤ 128
