@@ -16,7 +16,7 @@ use Rattle.equivalence.specs.Vetted.{table_of, Vetted}
 use Rattle.equivalence.specs.declared.faults.Fault.{Fault}
 use Rattle.equivalence.specs.Levels.{coarsest_table}
 use Rattle.equivalence.proofs.Levels.{coarsest_length, coarsest_level, named_head}
-use Rattle.driving.specs.Book.{Book, opened}
+use Rattle.driving.specs.Book.{opened}
 use Rattle.driving.specs.Known.{classes, drawn, edited, replies, started, AllKnown, Known, KnownBy, KnownUnder, Shows}
 use Rattle.driving.specs.declared.call.Edit.{Edit}
 use Rattle.driving.specs.declared.call.Reply.{Reply}

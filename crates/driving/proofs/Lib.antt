@@ -4,3 +4,4 @@ pub mod Promised
 pub mod Moments
 pub mod RunLaws
 pub mod KnownTables
+pub mod Refuted

@@ -6,7 +6,6 @@ use Rattle.network.specs.Meaning.{Meaning}
 use Rattle.measure.specs.Measures.{Operations, Laws}
 use Rattle.equivalence.specs.Heads.{head_of}
 use Rattle.session.specs.States.{KeepsHeads, role}
-use Rattle.driving.specs.Book.{Book, book_in}
 use Rattle.driving.specs.Courses.{Course, course_after, course_before}
 use Rattle.driving.specs.Laws.{Still, Rests, Finds}
 use Rattle.driving.specs.Promise.{At, RunTo}
@@ -68,6 +67,7 @@ module _ {V : Type 0} (o : Operations V) (m : Meaning) (given done : List Exchan
       (along (λ j. (x < (run.state j).network.nodes) × (head_of (role (run.state j)) x ≡ x)) i (node, head) k l within
       (λ j e d a b here there was.
       let turn = turn_at j e d here there in
-      let rest = rests j d a b there in
-      (omega (arith, turning.same_nodes o (run.state j) (run.state (j + 1)) e.area.now d.reply d.area.now (course j).settled e.call turn, was.0),
-      turning.rests_heads o (run.state j) (run.state (j + 1)) e.area.now d.reply d.area.now laws (course j).settled e.call turn rest x was.0 was.1))).1
+      let rest = rests j d a b there in (
+        omega (arith, turning.same_nodes o (run.state j) (run.state (j + 1)) e.area.now d.reply d.area.now (course j).settled e.call turn, was.0),
+        turning.rests_heads o (run.state j) (run.state (j + 1)) e.area.now d.reply d.area.now laws (course j).settled e.call turn rest x was.0 was.1,
+      ))).1

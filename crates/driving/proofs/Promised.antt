@@ -1,5 +1,5 @@
 -- A sound session with the coarsest table keeps the promise of its book.
-use Rattle.std.proofs.Common.{◌≡◌, ◌∙◌, refl, sym, ap}
+use Rattle.std.proofs.Common.{◌≡◌, ◌∙◌, sym, ap}
 use Rattle.measure.specs.Measures.{Operations, Laws}
 use Rattle.session.specs.States.{State, IsSound}
 use Rattle.session.proofs.Asked.{look_answers, ask_answers}

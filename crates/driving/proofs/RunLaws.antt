@@ -28,7 +28,7 @@ use Rattle.driving.proofs.Moments.{turn_at, settled_best, found_best, still_same
 use Rattle.driving.proofs.Promised.{promised}
 
 -- of a reply that is a number or a refusal
-accepted_in : {X F : Type 0} (b : Bool) (v w : X) (f : F) → ◌≡◌ {A = Result X F} (Ok w) (cond b (Ok v) (Err f)) → (b ≡ true) × (w ≡ v)
+pub accepted_in : {X F : Type 0} (b : Bool) (v w : X) (f : F) → ◌≡◌ {A = Result X F} (Ok w) (cond b (Ok v) (Err f)) → (b ≡ true) × (w ≡ v)
 accepted_in true v w f e = (refl, search rules)
 accepted_in false v w f e = absurd (search rules)
 

@@ -9,7 +9,7 @@ use Rattle.network.specs.Meaning.{Meaning}
 use Rattle.measure.specs.Measures.{Operations}
 use Rattle.session.specs.Sessions.{Begun}
 use Rattle.session.specs.States.{State, IsSound}
-use Rattle.driving.specs.Book.{Book, book_in}
+use Rattle.driving.specs.Book.{book_in}
 use Rattle.driving.specs.Courses.{Course, calls_of, course_after, course_before}
 use Rattle.driving.specs.Promise.{At, KeepsCall, RunTo}
 use Rattle.driving.specs.Turns.{Turn}

@@ -1,5 +1,5 @@
 -- What a call makes of a session, by its turn.
-use Rattle.std.proofs.Common.{rules, ◌≡◌, ℕ, ◌<◌, Bool, true, false, List, Result, Ok, Err, refl, sym, ap, subst, ◌∙◌, inl, inr, ◌⊎◌, arith}
+use Rattle.std.proofs.Common.{rules, ◌≡◌, ℕ, Bool, true, false, List, Result, Ok, Err, refl, sym, ap, subst, ◌∙◌, inl, inr, ◌⊎◌, arith}
 use Rattle.network.specs.Meaning.{Meaning}
 use Rattle.network.specs.Put.{put_answer, with_tie}
 use Rattle.network.specs.declared.faults.Fault.{Fault}
@@ -10,8 +10,6 @@ use Rattle.equivalence.specs.Heads.{head_of}
 use Rattle.equivalence.proofs.Splitting.{split_parted}
 use Rattle.session.specs.Sessions.{Edited}
 use Rattle.session.specs.States.{IsSound, KeepsHeads, State, classes, role}
-use Rattle.session.specs.Steps.{Stepped}
-use Rattle.session.specs.declared.step.Step as step
 use Rattle.session.specs.declared.step.Step.TheVariants.{Stable, Split}
 use Rattle.driving.specs.Book.{Book, book_in}
 use Rattle.driving.specs.Courses.{Course, course_after}

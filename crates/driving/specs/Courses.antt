@@ -13,7 +13,7 @@ use Rattle.driving.specs.Book.{Book, book_after, opened}
 use Rattle.driving.specs.declared.call.Call.{Call}
 use Rattle.driving.specs.declared.call.Call.TheVariants as calls
 use Rattle.driving.specs.declared.call.Exchange.{Exchange}
-use Rattle.driving.specs.declared.call.Move.TheVariants.{Step, Settle, Reopen}
+use Rattle.driving.specs.declared.call.Move.TheVariants.{Settle, Reopen}
 use Rattle.driving.specs.declared.call.Write.TheVariants.{Ask}
 
 abbrev pub takes : Bool → Call → Bool

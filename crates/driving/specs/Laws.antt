@@ -18,10 +18,9 @@ use Rattle.question.specs.declared.line.Line.{Line}
 use Rattle.session.specs.States.{KeepsHeads, role, role_count}
 use Rattle.session.specs.declared.step.Step.TheVariants.{Stable, Split}
 use Rattle.driving.specs.Courses.{course_before}
-use Rattle.driving.specs.Promise.{At, Promise, RunTo}
-use Rattle.driving.specs.Turns.{edit_reply, told}
+use Rattle.driving.specs.Promise.{AnsweredByBook, At, Promise, RunTo}
+use Rattle.driving.specs.Turns.{told}
 use Rattle.driving.specs.declared.call.Call.{Call}
-use Rattle.driving.specs.declared.call.Edit.{Edit}
 use Rattle.driving.specs.declared.call.Exchange.{Exchange}
 use Rattle.driving.specs.declared.call.Move.{Move}
 use Rattle.driving.specs.declared.call.Reply.{Reply}
@@ -59,9 +58,7 @@ module _ {V : Type 0} (o : Operations V) where
     -- so does any session from a settle or a step that says stable on, until a put or a colour is accepted
     pub found : (j k : ℕ) → k ≤ length given → Finds given done j → Rests given done (j + 1) k → Promise o (course_before m given k).book (run.state k)
     -- a put and a colour that are taken are answered as the book answers them
-    pub edits : (k : ℕ) (e d : Exchange) (edit : Edit)
-        → At given k e → At done k d → e.call ≡ Call.Edit edit → (course_before m given k).settled ≡ false
-        → d.reply ≡ edit_reply (course_before m given k).book edit
+    pub edits : AnsweredByBook m given done
     -- what is told until the table is altered is told of one table
     pub tells : (i : ℕ) (tell : Tell) (r : Reply) → i ≤ length given → Told given done i (Call.Tell tell) r → r ≡ told (run.state i) tell
     -- each head stays a head until a put or a colour is accepted

@@ -4,15 +4,15 @@
 -- operations, a regular table, the coarsest one, where question and answer stand in an area, what a session holds,
 -- how it begins and ends, the book, and what each call does.
 --
---   Promise      a session has the ties and colours of the book and the coarsest table, and its roles answer as the network does
---   At           the exchange at place k of a list
---   KeepsCall    an exchange that is done still has its call, and is lent the same area
---   RunTo        what the first n calls of a list do, one after another, from the making on
---   Driven       what all of them do, and then a settle
+--   Promise         a session has the ties and colours of the book and the coarsest table, and its roles answer as the network does
+--   At              the exchange at place k of a list
+--   AnsweredByBook  each put and colour that is taken is accepted, or refused with its number, as the book of the moment answers it
+--   KeepsCall       an exchange that is done still has its call, and is lent the same area
+--   RunTo           what the first n calls of a list do, one after another, from the making on
+--   Driven          what all of them do, and then a settle
 use Rattle.std.specs.Prelude.{◌≡◌, ℕ, ◌+◌, ◌<◌, ◌≤◌, true, false, List, length, slice_get, slice_index, Ok, Some}
 use Rattle.network.specs.Meaning.{Meaning}
 use Rattle.measure.specs.Measures.{Operations}
-use Rattle.equivalence.specs.Regular.{Regular}
 use Rattle.equivalence.specs.Coarsest.{Coarsest}
 use Rattle.question.specs.declared.line.Line.{Line}
 use Rattle.session.specs.States.{State, IsSound, classes, role}
@@ -20,7 +20,9 @@ use Rattle.session.specs.Questions.{look_answer, ask_answer, after_look, after_a
 use Rattle.session.specs.Sessions.{Begun, Ended}
 use Rattle.driving.specs.Book.{Book, book_in}
 use Rattle.driving.specs.Courses.{course_before}
-use Rattle.driving.specs.Turns.{Turn}
+use Rattle.driving.specs.Turns.{Turn, edit_reply}
+use Rattle.driving.specs.declared.call.Call.{Call}
+use Rattle.driving.specs.declared.call.Edit.{Edit}
 use Rattle.driving.specs.declared.call.Exchange.{Exchange}
 
 pub record Promise {V : Type 0} (o : Operations V) (book : Book) (s : State) : Type 0 where
@@ -42,6 +44,15 @@ pub record Promise {V : Type 0} (o : Operations V) (book : Book) (s : State) : T
 
 abbrev pub At : List Exchange → ℕ → Exchange → Type 0
 At exchanges k e = slice_get exchanges k ≡ Some e
+
+abbrev pub AnsweredByBook : Meaning → List Exchange → List Exchange → Type 0
+AnsweredByBook m given done =
+    (k : ℕ) (e d : Exchange) (edit : Edit)
+    → At given k e
+    → At done k d
+    → e.call ≡ Call.Edit edit
+    → (course_before m given k).settled ≡ false
+    → d.reply ≡ edit_reply (course_before m given k).book edit
 
 pub record KeepsCall (given done : Exchange) : Type 0 where
   pub call : done.call ≡ given.call

@@ -5,7 +5,7 @@ ghost use Rattle.equivalence.specs.Levels.{CoarsestNamed, LevelsCoarsest};
 ghost use Rattle.session.specs.SettledSessions.{settled_parts, settled_state};
 ghost use Rattle.driving.specs.Courses.{last_book};
 ghost use Rattle.driving.specs.Laws.{RunLaws};
-ghost use Rattle.driving.specs.Promise.{Driven, Promise};
+ghost use Rattle.driving.specs.Promise.{AnsweredByBook, Driven, Promise};
 
 use super::call::Exchange;
 use super::state::Session;
@@ -23,6 +23,8 @@ pub fn drive<N: Editable, M: Measure>(
 ) -> Settled<N, M>
     ensures promise { let book = last_book (N.Readable.meaning network) exchanges.old in
         Promise M.Measure.ops book (settled_state result) }
+    ensures edits { let m = N.Readable.meaning network in
+        AnsweredByBook m exchanges.old exchanges.new }
     ensures driven { let m = N.Readable.meaning network in
         Driven M.Measure.ops m exchanges.old exchanges.new (settled_state result) }
     ensures measure { (settled_parts result).1 ≡ measure }

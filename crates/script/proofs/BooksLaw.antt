@@ -16,9 +16,8 @@ use Rattle.network.specs.Put.{put_answer, with_tie}
 use Rattle.network.specs.declared.faults.Fault as network
 use Rattle.question.specs.declared.line.Line.{Line}
 use Rattle.question.specs.declared.faults.Fault as question
-use Rattle.driving.specs.Book.{Book, opened, after_put, after_colour}
-use Rattle.driving.specs.Courses.{book_after}
-use Rattle.driving.specs.declared.call.Call.{Call}
+use Rattle.driving.specs.Book.{Book, book_after, opened, after_put, after_colour}
+use Rattle.driving.specs.declared.call.Edit.{Edit}
 use Rattle.driving.proofs.Turning.{book_same}
 use Rattle.script.specs.BooksLaw.{Names, Chooses, Silent, First, edit, edits, fed, drafted, asked, Story, BooksLaw}
 use Rattle.script.specs.Drafts.{add_answer, lines_after}
@@ -98,7 +97,7 @@ module _ (by : Chosen) (book : Book) (lines : List Line) where
   worked (Ok other) = refl
   worked (Err why) = refl
 
-edit_first : (book : Book) (said : Result Said Reason) (more : List Call) → fold book_after book (edit said ++ more) ≡ fold book_after (fold book_after book (edit said)) more
+edit_first : (book : Book) (said : Result Said Reason) (more : List Edit) → fold book_after book (edit said ++ more) ≡ fold book_after (fold book_after book (edit said)) more
 edit_first book (Ok (Said.Put i j b)) more = refl
 edit_first book (Ok (Said.Colour i c)) more = refl
 edit_first book other more = refl

@@ -4,21 +4,21 @@ use Rattle.measure.specs.Measures.{Laws, Operations}
 use Rattle.measure.specs.BundleLaws.{bundles_laws}
 use Rattle.measure.specs.KindLaws.{kinds_laws}
 use Rattle.measure.specs.TallyLaws.{tally_laws}
-use Rattle.equivalence.specs.Coarsest.{roles}
-use Rattle.equivalence.proofs.Levels.{coarsest_level, named_lowest}
+use Rattle.equivalence.specs.Heads.{roles}
+use Rattle.equivalence.proofs.Levels.{coarsest_level, named_head}
 use Rattle.equivalence.proofs.Refinement.{roles_le}
 use Rattle.question.specs.declared.line.Line.{Line}
 use Rattle.driving.specs.Book.{Book}
-use Rattle.script.specs.Listings.{heads, role_total, split_total, settled_lines, true_lines, go_lines, each_below}
+use Rattle.script.specs.Listings.{classes, heads, role_total, split_total, settled_lines, true_lines, go_lines, each_below}
 use Rattle.script.specs.Listed.{Listed, ListedBy}
 use Rattle.script.specs.Words.{node_line}
 use Rattle.script.specs.Works.{Chosen, go_by}
 use Rattle.script.proofs.Printing.{true_lines_none}
 
 module _ {V : Type 0} (o : Operations V) (laws : Laws o) (book : Book) where
-  split_counted : split_total o book + roles book.colours book.network.nodes ≡ role_total o book
+  split_counted : split_total o book + roles (classes book) book.network.nodes ≡ role_total o book
   split_counted =
-      let fewer = roles_le book.network.nodes (heads o book) book.colours (coarsest_level o laws book.network book.colours).within in
+      let fewer = roles_le book.network.nodes (heads o book) (classes book) (coarsest_level o laws book.network (classes book)).covers.within in
       omega (arith, fewer)
 
   go_listed : (lines : List Line) → Listed o book lines (go_lines o book lines)
@@ -31,8 +31,8 @@ module _ {V : Type 0} (o : Operations V) (laws : Laws o) (book : Book) where
         of_question = true_lines o book lines;
         parts = refl;
         nodes = refl;
-        coarsest = coarsest_level o laws book.network book.colours;
-        heads = named_lowest o laws book.network book.colours;
+        coarsest = coarsest_level o laws book.network (classes book);
+        heads = named_head o laws book.network (classes book);
         counted = split_counted;
         asked = refl;
         unasked = λ none. true_lines_none o book lines (ap (λ (ls : List Line). length ls) none);

@@ -4,7 +4,7 @@
 --   Chooses      the record chooses this measure
 --   Silent       none of the records says a thing of this sort
 --   First        the first record that does says x, and these records stand behind it
---   edit         the call of a session that the record is, or none: a put or a colour
+--   edit         the edit of a session that the record is, or none
 --   edits        those of the records, in order
 --   fed          the book at the making, fed each edit
 --   drafted      the question after the record: a line more where it is accepted, no line after GO
@@ -21,9 +21,8 @@ use Rattle.network.specs.Matrices.{untied}
 use Rattle.network.specs.Meaning.{Meaning}
 use Rattle.network.specs.TwoModes.{untied_sides}
 use Rattle.question.specs.declared.line.Line.{Line}
-use Rattle.driving.specs.Book.{Book, opened}
-use Rattle.driving.specs.Courses.{book_after}
-use Rattle.driving.specs.declared.call.Call.{Call}
+use Rattle.driving.specs.Book.{Book, book_after, opened}
+use Rattle.driving.specs.declared.call.Edit.{Edit}
 use Rattle.script.specs.Drafts.{lines_after}
 use Rattle.script.specs.Records.{Said, parse}
 use Rattle.script.specs.Stages.{Phase}
@@ -53,12 +52,12 @@ pub record First {X : Type 0} (Says : Result Said Reason → X → Type 0) (rs :
   pub silent : Silent Says before
   pub says : Says (parse line) x
 
-abbrev pub edit : Result Said Reason → List Call
-edit (Ok (Said.Put i j b)) = Call.Put i j b ∷ []
-edit (Ok (Said.Colour i c)) = Call.Colour i c ∷ []
+abbrev pub edit : Result Said Reason → List Edit
+edit (Ok (Said.Put i j b)) = Edit.Put i j b ∷ []
+edit (Ok (Said.Colour i c)) = Edit.Colour i c ∷ []
 edit other = []
 
-abbrev pub edits : List (List ℕ) → List Call
+abbrev pub edits : List (List ℕ) → List Edit
 edits rs = flat_map (λ line. edit (parse line)) rs
 
 -- an edit that is refused leaves the book as it is

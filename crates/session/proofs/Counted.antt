@@ -1,6 +1,5 @@
 -- A table has as many roles as records.
-use Rattle.std.proofs.Common.{◌≡◌, ℕ, ◌<◌, ◌≤◌, Bool, true, List, length, sym, refl, ap, ◌∙◌, arith}
-use Rattle.network.specs.Meaning.{count_below}
+use Rattle.std.proofs.Common.{◌≡◌, ℕ, ◌<◌, Bool, true, sym, refl, ap, ◌∙◌, arith}
 use Rattle.network.proofs.Counting.{count_below_all, count_below_inject}
 use Rattle.equivalence.specs.Heads.{head_of, is_head, roles}
 use Rattle.equivalence.proofs.Heads.{head_decides, head_is, head_same}

@@ -16,7 +16,7 @@ use Rattle.equivalence.proofs.Splitting.{covers_split, split_law}
 use Rattle.session.specs.Sessions.{Begun, colours_after}
 use Rattle.session.specs.States.{IsSound, State, class_count, classes, record_of, role_count, state_with}
 use Rattle.session.specs.Steps.{InTwo}
-use Rattle.session.specs.Tables.{Starting, class_in, count_in, head_in, nodes_in, record_in, role_in}
+use Rattle.session.specs.Tables.{Starting, colour_in, count_in, head_in, nodes_in, record_in, role_in}
 use Rattle.session.specs.declared.table.Table.{Table as RoleTable}
 use Rattle.session.proofs.Counted.{counted}
 
@@ -40,6 +40,7 @@ module _ (t : RoleTable) {V : Type 0} (o : Operations V) (m : Meaning) where
           described = λ r l.
               let told = t.recorded.described r (omega (arith, numbered t m.nodes fits)) in
               record { node = omega (arith, fits, told.node); mate = told.mate; lowest = told.lowest; size = refl };
+          ordered = rw (numbered t m.nodes fits) at t.recorded.ordered;
           covers = covers;
           counted = tallied;
         }
@@ -53,8 +54,8 @@ module _ (t : RoleTable) {V : Type 0} (o : Operations V) (m : Meaning) where
   -- at the starting classes
   pub sound_begun : Starting m t → IsSound o state
   sound_begun start =
-      sound start.nodes (covers_started o m (class_in t) (role_in t) start.heads)
-      (omega (arith, start.splits, started_roles o m (class_in t) (role_in t) start.heads))
+      sound start.nodes (covers_started o m (colour_in t) (role_in t) start.heads)
+      (omega (arith, start.splits, started_roles o m (colour_in t) (role_in t) start.heads))
 
   -- after a split of a table that kept it
   pub sound_split : (laws : Laws o) (old : RoleTable) (part toward fresh : ℕ) → nodes_in t ≡ m.nodes → IsSound o (state_with m old) → InTwo o (state_with m old) state part toward fresh → IsSound o state
@@ -65,13 +66,12 @@ module _ (t : RoleTable) {V : Type 0} (o : Operations V) (m : Meaning) where
       (omega (arith, same, was.counted, two.count, (split_law o laws m (role_in old) (role_in t) part toward fresh two.split).more))
 
 -- a session that begins
-pub begun : (m : Meaning) (t : RoleTable) → Starting m t → (colours : Table) → class_in t ≡ colours → Begun m colours (state_with m t)
+pub begun : (m : Meaning) (t : RoleTable) → Starting m t → (colours : Table) → colour_in t ≡ colours → Begun m colours (state_with m t)
 begun m t start colours is =
     record {
       network = refl;
       colours = is;
       start = λ x l. rw is at (start.heads x l);
-      ordered = rw (numbered t m.nodes start.nodes) at t.recorded.ordered;
       splits = start.splits;
     }
 

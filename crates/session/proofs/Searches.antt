@@ -1,4 +1,4 @@
--- What a search below a bound tells. Assumes nothing.
+-- What a search below a bound tells.
 use Rattle.std.proofs.Common.{ℕ, ◌<◌, ◌≤◌, Option, Some, None, MatchOption, arith}
 
 pub first_below : (r : Option ℕ) (n : ℕ) (Yes No Found : ℕ → Type 0)

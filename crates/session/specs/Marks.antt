@@ -2,6 +2,7 @@
 --
 --   marked    line k is true at column p
 --   Written   the bytes have a row for each line that the claim names
+--   LastRow   the area has a row of this width from `start` on, and it is true as `truth` says
 use Rattle.std.specs.Prelude.{◌≡◌, length, take, drop, ℕ, ◌+◌, ◌*◌, ◌≤◌, Bool, ◌==◌, List, slice_index}
 use Rattle.question.specs.Areas.{row_bytes}
 use Rattle.question.specs.declared.line.Claim.{Claim}
@@ -16,7 +17,6 @@ Written width size (Not k) = k * width + width ≤ size
 Written width size (And k l) = (k * width + width ≤ size) × (l * width + width ≤ size)
 Written width size (Tied k t) = k * width + width ≤ size
 
--- the last row of an area, by itself
 pub record LastRow (width start : ℕ) (truth : ℕ → Bool) (area : List ℕ) : Type 0 where
   pub within : start + width ≤ length area
   pub bytes : take width (drop start area) ≡ row_bytes width truth

@@ -1,4 +1,4 @@
--- What an open session holds. Assumes nothing.
+-- What an open session holds.
 --
 --   state_of    its state
 --   parts_of    its network and its measure

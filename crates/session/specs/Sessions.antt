@@ -1,6 +1,6 @@
 -- What a session starts from, what a colour answers and leaves, and what a session settles into.
 --
---   Begun            a state of these ties and colours at their starting classes, numbered in the order of their heads, with no role split
+--   Begun            a state of these ties and colours at their starting classes, with no role split
 --   colour_answer    accepted, or 3 where there is no such node
 --   colours_after    the colours after a colour, refused or not
 --   Edited           the state after a put or a colour: begun anew where it is accepted, as it was where it is refused
@@ -12,7 +12,6 @@ use Rattle.equivalence.specs.Regular.{Table}
 use Rattle.equivalence.specs.Heads.{head_of}
 use Rattle.equivalence.specs.Starting.{starting_classes}
 use Rattle.equivalence.specs.Coarsest.{Coarsest}
-use Rattle.session.specs.Roles.{Ordered}
 use Rattle.session.specs.States.{State, KeepsHeads, role, role_count, classes, class_count}
 use Rattle.session.specs.declared.faults.Fault.{Fault}
 
@@ -20,8 +19,6 @@ pub record Begun (m : Meaning) (colouring : Table) (s : State) : Type 0 where
   pub network : s.network ≡ m
   pub colours : s.colours ≡ colouring
   pub start : (x : ℕ) → x < m.nodes → head_of (role s) x ≡ starting_classes m colouring x
-  -- roles are numbered in the order of their heads
-  pub ordered : Ordered (role_count s) s.head
   pub splits : s.splits ≡ 0
 
 abbrev pub colour_answer : ℕ → ℕ → Result (Unit {0}) Fault

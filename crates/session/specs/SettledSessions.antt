@@ -1,4 +1,4 @@
--- What a settled session holds. Assumes nothing.
+-- What a settled session holds.
 --
 --   settled_state    its state
 --   settled_parts    its network and its measure

@@ -17,8 +17,8 @@ use Rattle.equivalence.specs.Heads.{head_of, roles}
 use Rattle.equivalence.specs.Starting.{starting_classes}
 use Rattle.equivalence.specs.Coarsest.{Covers}
 use Rattle.equivalence.specs.Vetted.{table_of}
-use Rattle.session.specs.Roles.{Described}
-use Rattle.session.specs.Tables.{class_in, head_in}
+use Rattle.session.specs.Roles.{Described, Ordered}
+use Rattle.session.specs.Tables.{colour_in, head_in}
 use Rattle.session.specs.declared.role.Role.{Role}
 use Rattle.session.specs.declared.table.Table.{Table as RoleTable}
 
@@ -45,15 +45,16 @@ abbrev pub record_of : State → ℕ → Role
 record_of s r = record { head = s.head r; size = count_below (members (role s) r) s.network.nodes }
 
 abbrev pub state_with : Meaning → RoleTable → State
-state_with m t = record { network = m; colours = class_in t; table = t.role_of.items; head = head_in t; splits = t.splits }
+state_with m t = record { network = m; colours = colour_in t; table = t.role_of.items; head = head_in t; splits = t.splits }
 
 pub record IsSound {V : Type 0} (o : Operations V) (s : State) : Type 0 where
   pub few : s.network.nodes ≤ 128
   -- the table has an entry for each node
   pub entries : length s.table ≡ s.network.nodes
-  -- roles are numbered from 0, each has a node, and its head is the lowest
+  -- roles are numbered from 0 in the order of their heads; each has a node, and its head is the lowest
   pub ranged : (x : ℕ) → x < s.network.nodes → role s x < role_count s
   pub described : (r : ℕ) → r < role_count s → Described s.network.nodes (role s) r (record_of s r)
+  pub ordered : Ordered (role_count s) s.head
   -- within the starting classes, and every regular table within them refines it
   pub covers : Covers o s.network (classes s) (role s)
   -- splits are roles minus starting classes

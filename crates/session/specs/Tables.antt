@@ -1,7 +1,7 @@
 -- The table of role records, read as a table.
 --
 --   nodes_in     how many nodes it has
---   class_in    the colour of each node
+--   colour_in    the colour of each node
 --   role_in      the role of each node
 --   count_in     how many roles it has
 --   record_in    the record of a role
@@ -20,8 +20,8 @@ use Rattle.session.specs.declared.table.Table.{Table as RoleTable}
 abbrev pub nodes_in : RoleTable → ℕ
 nodes_in table = length table.role_of.items
 
-abbrev pub class_in : RoleTable → Table
-class_in table = table_of table.colours
+abbrev pub colour_in : RoleTable → Table
+colour_in table = table_of table.colours
 
 abbrev pub role_in : RoleTable → Table
 role_in table = table_of table.role_of.items
@@ -38,5 +38,5 @@ head_in table = head_at table.roles.items
 -- in the network
 pub record Starting (m : Meaning) (table : RoleTable) : Type 0 where
   pub nodes : nodes_in table ≡ m.nodes
-  pub heads : (x : ℕ) → x < m.nodes → head_of (role_in table) x ≡ starting_classes m (class_in table) x
+  pub heads : (x : ℕ) → x < m.nodes → head_of (role_in table) x ≡ starting_classes m (colour_in table) x
   pub splits : table.splits ≡ 0

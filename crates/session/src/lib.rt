@@ -1,4 +1,12 @@
-// Sessions: from the starting classes to the coarsest regular table.
+//! Sessions: ties and colours change, and roles are split until the table is regular.
+//!
+//! `Open::new` takes a network and a measure. An open session takes put and colour, which bring its
+//! table back to the starting classes; step, which splits one role in two; and settle, which splits
+//! roles until the table is the coarsest regular one within the starting classes. What it gives
+//! then, a `Settled` session, answers a question for each role, and nothing of it can be altered
+//! until it is open again. Both kinds tell their roles, and answer a question for each node.
+//!
+//! A session allocates nothing, and holds at most 128 nodes.
 
 #![tactic(auto)]
 
@@ -10,7 +18,7 @@ mod table;
 mod columns;
 // The refusals of a session.
 pub mod faults;
-// What a step does.
+// What a step did.
 pub mod step;
 // Ties and colours change, and roles are split.
 pub mod open;
@@ -18,3 +26,9 @@ pub mod open;
 pub mod settled;
 #[cfg(test)]
 mod tests;
+
+pub use faults::Fault;
+pub use open::Open;
+pub use role::Role;
+pub use settled::Settled;
+pub use step::Step;

@@ -20,7 +20,7 @@ mod looking;
 
 /// A session that takes put, colour and step. Either of put and colour brings the table back to the
 /// starting classes where it is accepted.
-#[derive(Drop)]
+#[derive(Debug, Drop)]
 pub struct Open<N: Editable, M: Measure> {
     network: N,
     measure: M,
@@ -61,8 +61,7 @@ impl<N: Editable, M: Measure> Open<N, M> {
 
     /// Node i becomes of colour c. Accepted, the table is back at the starting classes, also where
     /// nothing is altered. Refused, all is as it was.
-    #[tactic(auto, using(crate::proofs::Keeping::sound_begun, crate::proofs::Keeping::begun,
-        crate::proofs::Keeping::coloured))]
+    #[tactic(auto, using(crate::proofs::Keeping::sound_begun, crate::proofs::Keeping::begun, crate::proofs::Keeping::coloured))]
     pub fn colour(&mut self, i: usize, c: u8) -> Result<(), Fault>
         ensures answer { result ≡ colour_answer (state_of self.old).network.nodes i }
         ensures edited { let s = state_of self.old in

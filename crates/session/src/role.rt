@@ -1,5 +1,5 @@
 // One role of a table.
-ghost use Rattle.std.specs.Prelude.{◌≡◌, ◌+◌, ◌-◌, ◌<◌, ◌≤◌};
+ghost use Rattle.std.specs.Prelude.{◌≡◌, ◌+◌, ◌≤◌};
 
 /// A role's record, as a session keeps and tells it.
 #[derive(Clone, Copy, PartialEq, Eq, Debug, Default)]
@@ -16,13 +16,5 @@ impl Role {
         ensures { self.new ≡ record { head = self.old.head; size = self.old.size + 1 } }
     {
         self.size += 1;
-    }
-
-    // One node less, not the head.
-    pub(crate) fn shrink(&mut self)
-        requires { 0 < self.old.size }
-        ensures { self.new ≡ record { head = self.old.head; size = self.old.size - 1 } }
-    {
-        self.size -= 1;
     }
 }

@@ -1,17 +1,19 @@
 // A settled session: its table is the coarsest regular one within the starting classes.
-ghost use Rattle.std.specs.Prelude.{◌≡◌, ◌+◌, ◌<◌, IfOk};
+ghost use Rattle.std.specs.Prelude.{◌≡◌, ◌↔◌, ◌+◌, ◌<◌, IfErr, IfOk, IsOk};
 ghost use Rattle.equivalence.specs.Regular.{Regular};
 ghost use Rattle.equivalence.specs.Coarsest.{Coarsest};
 ghost use Rattle.session.specs.OpenSessions.{state_of, parts_of};
 ghost use Rattle.session.specs.Roles.{Described};
 ghost use Rattle.session.specs.Sessions.{Ended};
 ghost use Rattle.session.specs.States.{IsSound, class_count, classes, role, role_count};
-ghost use Rattle.session.specs.Tellings.{record_answer, role_answer};
+ghost use Rattle.session.specs.Tellings.{nodes_of, record_answer, role_answer};
+ghost use Rattle.session.specs.declared.faults.Fault.{Fault};
 
 use super::faults::Fault;
 use super::open::Open;
 use super::role::Role;
 use super::step::Step;
+use arrayvec::ArrayVec;
 use measure::interface::Measure;
 use network::interface::Editable;
 
@@ -19,7 +21,7 @@ use network::interface::Editable;
 mod asking;
 
 /// The session, of which nothing can be altered until it is open again.
-#[derive(Drop)]
+#[derive(Debug, Drop)]
 pub struct Settled<N: Editable, M: Measure> {
     session: Open<N, M>,
     ghost regular: { Regular M.Measure.ops (state_of session).network (role (state_of session)) },
@@ -41,7 +43,7 @@ impl<N: Editable, M: Measure> Open<N, M> {
 impl<N: Editable, M: Measure> Settled<N, M> {
     ghost use Rattle.session.specs.SettledSessions.{settled_state, settled_parts};
 
-    /// Table and count are kept.
+    /// The session, open again: table and count stay as they are.
     pub fn reopen(self) -> Open<N, M>
         ensures state { state_of result ≡ settled_state self }
         ensures parts { parts_of result ≡ settled_parts self }
@@ -80,6 +82,15 @@ impl<N: Editable, M: Measure> Settled<N, M> {
             IfOk result (Described s.network.nodes (role s) r) }
     {
         self.session.role(r)
+    }
+
+    /// The nodes of role r, in order, or 11.
+    pub fn members(&self, r: usize) -> Result<ArrayVec<u8, 128>, Fault>
+        ensures known { (r < role_count (settled_state self.now)) ↔ IsOk result }
+        ensures refused { IfErr result (λ f. f ≡ Fault.Role) }
+        ensures nodes { IfOk result (λ nodes. nodes.items ≡ nodes_of (settled_state self.now) r) }
+    {
+        self.session.members(r)
     }
 
     /// The role of each node, in order.

@@ -16,7 +16,7 @@ mod splitting;
 
 // colours[x] is the colour of node x, role_of[x] its role; roles[r] has the lowest node of role r
 // and its size.
-#[derive(Drop)]
+#[derive(Debug, Drop)]
 pub(crate) struct Table {
     colours: [u8; 128],
     role_of: ArrayVec<u8, 128>,
@@ -27,7 +27,7 @@ pub(crate) struct Table {
 }
 
 impl Table {
-    ghost use Rattle.session.specs.Tables.{nodes_in, class_in, role_in, count_in, record_in};
+    ghost use Rattle.session.specs.Tables.{nodes_in, colour_in, role_in, count_in, record_in};
 
     pub(crate) fn nodes(&self) -> usize
         ensures { result ≡ nodes_in self.now }
@@ -78,7 +78,7 @@ impl Table {
 
     pub(crate) fn colour_of(&self, x: usize) -> u8
         requires { x < 128 }
-        ensures { result ≡ class_in self.now x }
+        ensures { result ≡ colour_in self.now x }
     {
         self.colours[x]
     }

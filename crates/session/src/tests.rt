@@ -84,7 +84,7 @@ impl<N: Editable, M: Measure> Tells for Settled<N, M> {
     }
 }
 
-// So many roles were split, and heads[x] is the lowest node of the role of node x.
+// So many roles were split, and heads[x] is the head of the role of node x.
 fn shows<T: Tells>(rt: &impl Abort, session: &T, splits: usize, heads: &[usize]) {
     let mut roles = 0usize;
     for (x, &head) in heads.iter().enumerate() {

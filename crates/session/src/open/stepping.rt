@@ -31,7 +31,13 @@ impl<N: Editable, M: Measure> Open<N, M> {
             → (x : ℕ) → x < s.network.nodes
             → flag result x ≡ leaves M.Measure.ops s.network (role s) part among x }
     {
-        leaving(&self.network, &self.measure, self.table.roles_of(), part, nodes)
+        leaving(
+            &self.network,
+            &self.measure,
+            self.table.roles_of(),
+            part,
+            nodes,
+        )
     }
 
     // Splits the role of head `part` by totals toward that of head `toward`, whose nodes are

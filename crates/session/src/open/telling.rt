@@ -1,13 +1,15 @@
 // What a session tells, open or settled.
-ghost use Rattle.std.specs.Prelude.{◌≡◌, ◌+◌, ◌<◌, IfOk};
+ghost use Rattle.std.specs.Prelude.{◌≡◌, ◌↔◌, ◌+◌, ◌<◌, IfErr, IfOk, IsOk};
 ghost use Rattle.session.specs.OpenSessions.{state_of, parts_of};
 ghost use Rattle.session.specs.Roles.{Described};
 ghost use Rattle.session.specs.States.{IsSound, class_count, role, role_count};
-ghost use Rattle.session.specs.Tellings.{record_answer, role_answer};
+ghost use Rattle.session.specs.Tellings.{nodes_of, record_answer, role_answer};
+ghost use Rattle.session.specs.declared.faults.Fault.{Fault};
 
 use super::super::faults::Fault;
 use super::super::role::Role;
 use super::Open;
+use arrayvec::ArrayVec;
 use measure::interface::Measure;
 use network::interface::Editable;
 
@@ -51,6 +53,19 @@ impl<N: Editable, M: Measure> Open<N, M> {
             return Err(Fault::Role);
         }
         Ok(self.table.role(r))
+    }
+
+    /// The nodes of role r, in order, or 11.
+    #[tactic(auto, using(crate::proofs::Keeping::numbered))]
+    pub fn members(&self, r: usize) -> Result<ArrayVec<u8, 128>, Fault>
+        ensures known { (r < role_count (state_of self.now)) ↔ IsOk result }
+        ensures refused { IfErr result (λ f. f ≡ Fault.Role) }
+        ensures nodes { IfOk result (λ nodes. nodes.items ≡ nodes_of (state_of self.now) r) }
+    {
+        if r >= self.table.count() {
+            return Err(Fault::Role);
+        }
+        Ok(self.table.members(r))
     }
 
     /// The role of each node, in order.

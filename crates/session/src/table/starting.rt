@@ -3,7 +3,7 @@ ghost use Rattle.std.specs.Prelude.{◌≡◌, ℕ, ◌<◌, ◌≤◌, slice_se
 ghost use Rattle.equivalence.specs.Starting.{starting_classes};
 ghost use Rattle.equivalence.specs.Starting as starting;
 ghost use Rattle.equivalence.specs.Vetted.{table_of};
-ghost use Rattle.session.specs.Tables.{Starting, class_in};
+ghost use Rattle.session.specs.Tables.{Starting, colour_in};
 
 use super::Table;
 use arrayvec::ArrayVec;
@@ -47,7 +47,7 @@ impl Table {
     // Every colour is 0.
     pub(crate) fn new<N: Readable>(network: &N) -> Table
         ensures start { Starting (N.Readable.meaning network.now) result }
-        ensures colours { (x : ℕ) → class_in result x ≡ 0 }
+        ensures colours { (x : ℕ) → colour_in result x ≡ 0 }
     {
         Table::starting(network, [0; 128])
     }

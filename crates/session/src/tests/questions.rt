@@ -176,16 +176,15 @@ fn ask_answers_in_the_order_of_the_roles(rt: HostRuntime) -> Result<(), Fail> {
         [0, 0, 1, 1, 0, 0],
     ];
     let settled = looks(&rt, middles(&rt, rt.alloc())?, &question, &rows);
-    // Nodes 2 and 3 were split off last.
-    assert!(rt; settled.table() == [0, 0, 2, 2, 1, 1].as_slice());
+    assert!(rt; settled.table() == [0, 0, 1, 1, 2, 2].as_slice());
     let rows = [
-        [0, 1, 0],
         [0, 0, 1],
+        [0, 1, 0],
         [1, 0, 0],
-        [0, 1, 0],
-        [1, 0, 1],
-        [0, 1, 0],
         [0, 0, 1],
+        [1, 1, 0],
+        [0, 0, 1],
+        [0, 1, 0],
     ];
     asks(&rt, &settled, &question, &rows);
     Ok(())

@@ -42,6 +42,19 @@ fn each_node_of_a_chain_is_a_role(rt: HostRuntime) -> Result<(), Fail> {
 }
 
 #[test]
+fn the_nodes_of_a_role_are_told_in_order(rt: HostRuntime) -> Result<(), Fail> {
+    let open = tied(&rt, matrix(rt.alloc(), 5)?, Kinds, &TEAMS);
+    let settled = open.settle();
+    let nodes = settled.members(1).expect(&rt, "a role");
+    assert!(rt; nodes.as_slice() == [1, 2, 4].as_slice());
+    let open = settled.reopen();
+    let nodes = open.members(0).expect(&rt, "a role");
+    assert!(rt; nodes.as_slice() == [0, 3].as_slice());
+    assert!(rt; open.members(2).is_err());
+    Ok(())
+}
+
+#[test]
 fn tally_tells_teams_apart_by_their_sizes(rt: HostRuntime) -> Result<(), Fail> {
     let open = tied(&rt, matrix(rt.alloc(), 5)?, Kinds, &TEAMS);
     settles(&rt, open, &Kinds, 1, &[0, 1, 1, 0, 1]);

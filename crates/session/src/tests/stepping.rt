@@ -12,9 +12,15 @@ use std::alloc::Global;
 use std::process::Abort;
 use std::test::Fail;
 
-// How many nodes of the table have role r.
-fn size(table: &[u8], r: usize) -> usize {
-    table.iter().filter(|&&s| usize::from(s) == r).count()
+// The role of node x in the table.
+fn role_in(rt: &impl Abort, table: &[u8], x: usize) -> u8 {
+    table.get(x).copied().expect(rt, "a node")
+}
+
+// Whether no node below x has its role in the table.
+fn is_head(rt: &impl Abort, table: &[u8], x: usize) -> bool {
+    let role = role_in(rt, table, x);
+    table.iter().position(|&r| r == role) == Some(x)
 }
 
 // The step that the session makes, which fits the vet and the tables before and after it.
@@ -40,18 +46,24 @@ fn steps<N: Editable + Drop, M: Measure + Drop>(
             fresh,
         } => {
             assert!(rt; !regular);
-            assert_eq!(rt; fresh, counts.0);
-            assert!(rt; toward < fresh && part < fresh && fresh < 128);
-            assert_eq!(rt; open.counts(), (fresh + 1, counts.1.saturating_add(1)));
-            let stayed = open.role(part).expect(rt, "a role");
-            let left = open.role(fresh).expect(rt, "a role");
-            assert_eq!(rt; stayed.size.saturating_add(left.size), size(&old, part));
+            assert_eq!(rt;
+                open.counts(),
+                (counts.0.saturating_add(1), counts.1.saturating_add(1))
+            );
+            assert!(rt; is_head(rt, &old, part) && is_head(rt, &old, toward));
+            let stayed = open.role_at(part).expect(rt, "a role");
+            let left = open.role_at(fresh).expect(rt, "a role");
+            assert_eq!(rt; (stayed.head, left.head), (part, fresh));
+            let was = role_in(rt, &old, part);
+            assert_eq!(rt; role_in(rt, &old, fresh), was);
+            let size = old.iter().filter(|&&r| r == was).count();
+            assert_eq!(rt; stayed.size.saturating_add(left.size), size);
             // The two differ in the total that is told.
-            let toward = toward as u8;
+            let toward = role_in(rt, &old, toward);
             assert!(rt;
                 !measure.same(
-                    total_toward(open.network(), measure, stayed.head, &old, toward),
-                    total_toward(open.network(), measure, left.head, &old, toward),
+                    total_toward(open.network(), measure, part, &old, toward),
+                    total_toward(open.network(), measure, fresh, &old, toward),
                 )
             );
         }
@@ -78,7 +90,7 @@ fn the_mutual_tie_is_split_off_under_bundles(rt: HostRuntime) -> Result<(), Fail
     let split = Step::Split {
         part: 0,
         toward: 0,
-        fresh: 1,
+        fresh: 3,
     };
     assert_eq!(rt; steps(&rt, rt.alloc(), &mut open, &Bundles)?, split);
     shows(&rt, &open, 1, &[0, 0, 0, 3, 3]);

@@ -4,7 +4,6 @@ use Rattle.std.proofs.lemmas.List.{length-map, take_all}
 use Rattle.equivalence.proofs.Levels.{coarsest_named, levels_coarsest}
 use Rattle.equivalence.proofs.Refinement.{fewest}
 use Rattle.session.specs.SettledSessions.{settled_state}
-use Rattle.session.specs.States.{role}
 use Rattle.driving.specs.Book.{Book, book_in}
 use Rattle.driving.specs.Courses.{Course, calls_of, course_after, course_before, course_of, last_book}
 use Rattle.driving.specs.declared.call.Exchange.{Exchange}
@@ -63,6 +62,11 @@ run g c =
     let i = c.loop-exchange.invariant in
     let P : ℕ → Type 0 = λ k. (run : RunTo g.M.Measure.ops m given c.loop-exchange.exchanges k) × (run.state k ≡ state_in c.loop-exchange.session) × (course_in c.loop-exchange.session ≡ course_before m given k) in
     subst P (at_end g c) (i.2.0, i.2.1, i.1)
+
+pub returns-clause-edits : goal.returns-clause-edits
+returns-clause-edits g c =
+    let (run, now, course) = run g c in
+    (run_laws g.M.Measure.ops g.met.M.Measure.lawful (g.N.Readable.meaning c.args.network) c.args.exchanges.now c.loop-exchange.exchanges run).edits
 
 pub returns-clause-driven : goal.returns-clause-driven
 returns-clause-driven g c =

@@ -4,7 +4,7 @@ use Rattle.std.specs.Result.{IsOk}
 use Rattle.std.proofs.lemmas.Bool.Decides.{nat_tests}
 use Rattle.network.proofs.Counting.{count_below_le}
 use Rattle.driving.specs.Book.{book_in}
-use Rattle.equivalence.specs.Coarsest.{first}
+use Rattle.equivalence.specs.Heads.{is_head}
 use Rattle.session.specs.SettledSessions.{settled_state}
 use Rattle.session.specs.States.{role, role_count}
 use Rattle.script.specs.Listings.{is_true}
@@ -24,7 +24,7 @@ pub unwrap-start-requires : goal.unwrap-start-requires
 unwrap-start-requires g c =
     let s = c.args.settled.now in
     let state = settled_state s in
-    let narrow : role_count state ≤ 128 = omega (arith, s.session.sound.few, count_below_le (first (role state)) state.network.nodes) in
+    let narrow : role_count state ≤ 128 = omega (arith, s.session.sound.few, count_below_le (is_head (role state)) state.network.nodes) in
     subst IsOk (sym c.ask.ensures.start)
     (never_refused c.args.question.now (role_count state) 4096 (grind arith) c.requires.few c.requires.passes narrow (omega arith))
 

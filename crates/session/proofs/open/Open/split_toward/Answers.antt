@@ -1,4 +1,4 @@
-use Rattle.std.proofs.Common.{◌≡◌, ◌∙◌, ◌<◌, below_more, refl, sym, ap, arith}
+use Rattle.std.proofs.Common.{◌∙◌, ◌<◌, below_more, refl, sym, ap, arith}
 use Rattle.equivalence.specs.Regular.{Even, members}
 use Rattle.session.specs.Tables.{count_in, record_in, role_in}
 use Rattle.session.specs.declared.role.Role.{Role}

@@ -3,7 +3,7 @@ use Rattle.equivalence.specs.Totals.{total}
 use Rattle.question.specs.Truth.{claimed}
 use Rattle.question.specs.declared.line.Claim.{Claim}
 use Rattle.session.specs.Marks.{marked}
-use Rattle.session.specs.Tables.{class_in}
+use Rattle.session.specs.Tables.{colour_in}
 use Rattle.session.proofs.Rows.{byte_of_test, filled_more, row_claimed, row_none}
 use Rattle.session.proofs.open.Open.write_row.Goals as goal
 
@@ -32,7 +32,7 @@ loop-p-4-preserved g c =
     let columns = g.C.Columns.columns c.args.columns.now in
     let truth = marked (g.C.Columns.width c.args.columns.now) c.args.rows.now in
     let among = λ (y : ℕ). truth c.in-Some-Tied.k (columns.column y) in
-    let holds : c.holds.result ≡ claimed o m (class_in c.args.self.now.table) columns truth (Claim.Tied c.in-Some-Tied.k c.in-Some-Tied.t) c.loop-p-4.p =
+    let holds : c.holds.result ≡ claimed o m (colour_in c.args.self.now.table) columns truth (Claim.Tied c.in-Some-Tied.k c.in-Some-Tied.t) c.loop-p-4.p =
     c.holds.ensures
     ∙ ap (λ v. o.holds v c.in-Some-Tied.t)
     (c.total_over-total.ensures.set among (c.deref.ensures.0 ∙ c.true_nodes-toward.ensures)
@@ -43,7 +43,7 @@ loop-p-4-preserved g c =
 
 pub returns-after-loop-p-4 : goal.returns-after-loop-p-4
 returns-after-loop-p-4 g c =
-    row_claimed g.M.Measure.ops (g.N.Readable.meaning c.args.self.now.network) (class_in c.args.self.now.table) (g.C.Columns.columns c.args.columns.now) (marked (g.C.Columns.width c.args.columns.now) c.args.rows.now) c.args.line
+    row_claimed g.M.Measure.ops (g.N.Readable.meaning c.args.self.now.network) (colour_in c.args.self.now.table) (g.C.Columns.columns c.args.columns.now) (marked (g.C.Columns.width c.args.columns.now) c.args.rows.now) c.args.line
     (g.C.Columns.width c.args.columns.now) c.loop-p-4.row (Claim.Tied c.in-Some-Tied.k c.in-Some-Tied.t)
     (c.loop-p-4.auto.row ∙ c.requires.width)
     (sym c.claim.ensures ∙ c.in-Some-Tied.is ∙ ap Some c.in-Some-Tied.field-0-is)
@@ -53,5 +53,5 @@ pub returns-in-None : goal.returns-in-None
 returns-in-None g c =
     c.fill.ensures.after (λ y same. same)
     ∙ ap (λ n. replicate n 0) c.requires.width
-    ∙ row_none g.M.Measure.ops (g.N.Readable.meaning c.args.self.now.network) (class_in c.args.self.now.table) (g.C.Columns.columns c.args.columns.now) (marked (g.C.Columns.width c.args.columns.now) c.args.rows.now) c.args.line
+    ∙ row_none g.M.Measure.ops (g.N.Readable.meaning c.args.self.now.network) (colour_in c.args.self.now.table) (g.C.Columns.columns c.args.columns.now) (marked (g.C.Columns.width c.args.columns.now) c.args.rows.now) c.args.line
     (g.C.Columns.width c.args.columns.now) (sym c.claim.ensures ∙ c.in-None.is)

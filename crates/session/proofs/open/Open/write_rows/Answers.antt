@@ -4,7 +4,7 @@ use Rattle.question.specs.Lines.{line_at}
 use Rattle.question.specs.Truth.{rows}
 use Rattle.question.proofs.Passing.{each_passes, names_earlier}
 use Rattle.question.proofs.Rowing.{length_rows, rows_more}
-use Rattle.session.specs.Tables.{class_in}
+use Rattle.session.specs.Tables.{colour_in}
 use Rattle.session.proofs.Rows.{written, rows_front, row_written, line_read}
 use Rattle.session.proofs.open.Open.write_rows.Goals as goal
 
@@ -26,11 +26,11 @@ loop-k-preserved g c =
     let line = line_at lines k in
     let width = g.C.Columns.width columns in
     let same = c.width-width.ensures.value in
-    let before = rows o m (class_in s.table) at (take k lines) in
-    let count : length before ≡ k = length_rows o m (class_in s.table) at (take k lines) ∙ length-take-le k lines (omega (arith, c.loop-k-test.true)) in
+    let before = rows o m (colour_in s.table) at (take k lines) in
+    let count : length before ≡ k = length_rows o m (colour_in s.table) at (take k lines) ∙ length-take-le k lines (omega (arith, c.loop-k-test.true)) in
     let parts = c.split_at_mut-rows.ensures in
     let held = rw same at c.loop-k.invariant in
     let front = rows_front width before k count c.loop-k.area c.args.area.now held c.split_at_mut-rows.result.0.now (rw same at parts.front) in
-    let here = c.write_row.ensures ∙ line_read o m (class_in s.table) at width (λ y node. g.met.C.Columns.known columns y (omega (arith, c.requires.fits))) before c.split_at_mut-rows.result.0.now line front (rw count (each_passes lines c.requires.lines k c.loop-k-test.true)) in
-    rw (same, rows_more o m (class_in s.table) at lines k (record { code = 0; k = 0; l = 0; byte = 0 }) c.loop-k-test.true)
+    let here = c.write_row.ensures ∙ line_read o m (colour_in s.table) at width (λ y node. g.met.C.Columns.known columns y (omega (arith, c.requires.fits))) before c.split_at_mut-rows.result.0.now line front (rw count (each_passes lines c.requires.lines k c.loop-k-test.true)) in
+    rw (same, rows_more o m (colour_in s.table) at lines k (record { code = 0; k = 0; l = 0; byte = 0 }) c.loop-k-test.true)
     (row_written width before k count c.loop-k.area c.args.area.now held _ c.split_at_mut-rows.result.0.now c.split_at_mut-rows.result.1.now c.write_row.new.row front (rw same at parts.back) here)

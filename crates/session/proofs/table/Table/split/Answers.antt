@@ -1,4 +1,4 @@
-use Rattle.std.proofs.Common.{◌≡◌, ℕ, List, ◌<◌, ◌∙◌, cond, sym, ap, length, arith}
+use Rattle.std.proofs.Common.{ℕ, List, ◌<◌, ◌∙◌, cond, sym, ap, length, arith}
 use Rattle.equivalence.specs.Vetted.{table_of}
 use Rattle.equivalence.specs.Totals.{flag}
 use Rattle.session.proofs.Counted.{head_known}

@@ -1,4 +1,4 @@
-use Rattle.std.proofs.Common.{◌≡◌, ◌∙◌, ℕ, true, false, rules, tests}
+use Rattle.std.proofs.Common.{◌≡◌, ◌∙◌, true, false, rules, tests}
 use Rattle.std.proofs.lemmas.Iterator.{first_from_Range}
 use Rattle.equivalence.specs.Starting.{starts_with}
 use Rattle.equivalence.specs.Vetted.{table_of}
