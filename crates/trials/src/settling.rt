@@ -12,9 +12,7 @@ use driving::call::{Edit, Reply};
 use driving::known::Irregular;
 use measure::Measure;
 use network::{Editable, Readable};
-use session::open::Open;
-use session::settled::Settled;
-use session::step::Step;
+use session::{Open, Settled, Step};
 
 /// A network to be settled, and what is to come of it.
 #[derive(Drop)]
