@@ -7,7 +7,7 @@ use super::truth::{answered, truths};
 use measure::Measure;
 use network::Editable;
 use question::Line;
-use session::settled::Settled;
+use session::Settled;
 use std::alloc::AllocError;
 
 // Enough for six lines of nine nodes, and more.

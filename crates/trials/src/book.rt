@@ -1,7 +1,7 @@
 // A network with its colours, as the model keeps it: a plain byte for each pair of nodes.
 use driving::call::{Edit, Reply};
 use network::Fault as NetworkFault;
-use session::faults::Fault as SessionFault;
+use session::Fault as SessionFault;
 use std::alloc::{AllocError, Global};
 
 /// No network of the trials has more nodes.

@@ -10,7 +10,7 @@ use driving::call::{Exchange, Reply};
 use driving::drive::drive;
 use measure::Measure;
 use network::{Editable, Readable};
-use session::settled::Settled;
+use session::Settled;
 use std::alloc::{AllocError, Global};
 
 /// A list to be driven.

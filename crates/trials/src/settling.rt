@@ -12,9 +12,7 @@ use driving::call::{Edit, Reply};
 use driving::known::Irregular;
 use measure::Measure;
 use network::{Editable, Readable};
-use session::open::Open;
-use session::settled::Settled;
-use session::step::Step;
+use session::{Open, Settled, Step};
 
 /// A network to be settled, and what is to come of it.
 #[derive(Drop)]
@@ -32,7 +30,7 @@ pub(crate) struct Settling<'a> {
 }
 
 // Gives the session a put or a colour.
-fn edit<N: Editable, M: Measure>(session: &mut Open<N, M>, edit: Edit) -> Reply {
+fn give<N: Editable, M: Measure>(session: &mut Open<N, M>, edit: Edit) -> Reply {
     match edit {
         Edit::Put(i, j, b) => Reply::Put(session.put(i, j, b)),
         Edit::Colour(i, c) => Reply::Colour(session.colour(i, c)),
@@ -49,9 +47,9 @@ impl Settling<'_> {
     // Gives the edits, and then each colour. Each is answered as the book answers it.
     fn draw<N: Editable, M: Measure>(&self, session: &mut Open<N, M>) -> Result<(), Trouble> {
         let mut book = self.drawing.start;
-        for (at, &change) in self.drawing.edits.iter().enumerate() {
-            let given = edit(session, change);
-            self.case.hold(At("edit", at), given, book.edit(change))?;
+        for (at, &edit) in self.drawing.edits.iter().enumerate() {
+            let given = give(session, edit);
+            self.case.hold(At("edit", at), given, book.edit(edit))?;
         }
         for (x, &colour) in self.case.book.colours().iter().enumerate() {
             let given = session.colour(x, colour);

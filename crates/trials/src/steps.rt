@@ -3,7 +3,7 @@ use super::case::Case;
 use super::search::is_regular;
 use super::tables::{head, in_order, label, role_count, role_headed};
 use super::totals::total_toward;
-use session::step::Step;
+use session::Step;
 use std::alloc::AllocError;
 
 /// A step's answer, held against the table before it.

@@ -4,10 +4,7 @@ use super::tables::{head, in_order, label, role_count, size};
 use super::trouble::Trouble;
 use measure::Measure;
 use network::Editable;
-use session::faults::Fault;
-use session::open::Open;
-use session::role::Role;
-use session::settled::Settled;
+use session::{Fault, Open, Role, Settled};
 
 /// What both kinds of session tell.
 pub(crate) trait Tells {

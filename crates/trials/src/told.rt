@@ -4,8 +4,7 @@ use super::case::Case;
 use super::tables::{head, label, role_count, size};
 use super::truth::{Answer, answered};
 use driving::call::{Reply, Tell, Write};
-use session::faults::Fault;
-use session::role::Role;
+use session::{Fault, Role};
 use std::alloc::AllocError;
 
 /// A reply, and what then stands in the area.

@@ -49,7 +49,7 @@ fn renamed(case: &Case, table: &[u8]) -> Result<Vec<u8>, AllocError> {
     table.iter().map(|&role| u8::MAX - role).collect(case.heap)
 }
 
-/// Holds the vet of a table that is known not to be regular, and that no other three nodes show it.
+/// Holds the vet of a table that is known not to be regular: it gives the only nodes that show it.
 pub(crate) fn hold_irregular<N: Readable, M: Measure>(
     case: &Case,
     network: &N,
@@ -63,7 +63,7 @@ pub(crate) fn hold_irregular<N: Readable, M: Measure>(
         for y in 0..case.book.nodes {
             for z in 0..case.book.nodes {
                 let given = shows(case, table, x, y, z);
-                case.hold(At("showing by node", x), given, (x, y, z) == witness)?;
+                case.hold(At("a witness at node", x), given, (x, y, z) == witness)?;
             }
         }
     }
