@@ -7,7 +7,7 @@
 --   TrueCounts           so it is on at most 128 nodes: the cap of a count never binds
 --   RegularUnderTally    that is what regular means under tally, on at most 128 nodes
 use Rattle.std.specs.Prelude.{◌≡◌, ℕ, ◌<◌, ◌≤◌, Bool, ◌&&◌, ◌↔◌}
-use Rattle.network.specs.Meaning.{Meaning, tied, count_below}
+use Rattle.network.specs.Meaning.{Meaning, tied, count_below, most_nodes}
 use Rattle.measure.specs.Tally.{tally}
 use Rattle.equivalence.specs.Totals.{total}
 use Rattle.equivalence.specs.Regular.{Table, Regular, members}
@@ -28,7 +28,7 @@ pub record Counted (m : Meaning) (x : ℕ) (among : ℕ → Bool) : Type 0 where
   pub incoming : (total tally m x among).into ≡ in_neighbours m x among
 
 abbrev pub TrueCounts : Type 0
-TrueCounts = (m : Meaning) (x : ℕ) (among : ℕ → Bool) → m.nodes ≤ 128 → Counted m x among
+TrueCounts = (m : Meaning) (x : ℕ) (among : ℕ → Bool) → m.nodes ≤ most_nodes → Counted m x among
 
 abbrev pub RegularUnderTally : Type 0
-RegularUnderTally = (m : Meaning) (role : Table) → m.nodes ≤ 128 → Regular tally m role ↔ Equitable m role
+RegularUnderTally = (m : Meaning) (role : Table) → m.nodes ≤ most_nodes → Regular tally m role ↔ Equitable m role

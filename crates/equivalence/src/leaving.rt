@@ -8,6 +8,7 @@ ghost use Rattle.equivalence.specs.Vetted.{table_of};
 use super::totals::total_over;
 use measure::interface::Measure;
 use network::interface::Readable;
+use network::MOST_NODES;
 
 /// Flags the nodes of part's role whose total toward the listed nodes is not part's. One weigh
 /// for each node of the role and each listed node. The engine's own, so that the table has a byte
@@ -18,7 +19,7 @@ pub fn leaving<N: Readable, M: Measure>(
     table: &[u8],
     part: usize,
     nodes: &[u8],
-) -> [bool; 128]
+) -> [bool; MOST_NODES]
     requires fits { length table.now ≡ (N.Readable.meaning network.now).nodes }
     requires part { part < (N.Readable.meaning network.now).nodes }
     requires nodes { All (λ y. y < (N.Readable.meaning network.now).nodes) nodes.now }
@@ -30,7 +31,7 @@ pub fn leaving<N: Readable, M: Measure>(
         → flag result x ≡ leaves M.Measure.ops m (table_of table.now) part among x }
 {
     let total = total_over(network, measure, part, nodes);
-    let mut leaving = [false; 128];
+    let mut leaving = [false; MOST_NODES];
     for (x, leaves) in leaving[..network.nodes()].iter_mut().enumerate() {
         *leaves = table[x] == table[part]
             && !measure.same(total_over(network, measure, x, nodes), total);

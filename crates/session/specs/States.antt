@@ -10,7 +10,7 @@
 --   IsSound        what every state of a session is
 --   KeepsHeads     every head of the old state is a head of the new one
 use Rattle.std.specs.Prelude.{◌≡◌, ℕ, ◌+◌, ◌<◌, ◌≤◌, List, length}
-use Rattle.network.specs.Meaning.{Meaning, count_below}
+use Rattle.network.specs.Meaning.{Meaning, count_below, most_nodes}
 use Rattle.measure.specs.Measures.{Operations}
 use Rattle.equivalence.specs.Regular.{Table, members}
 use Rattle.equivalence.specs.Heads.{head_of, roles}
@@ -48,7 +48,7 @@ abbrev pub state_with : Meaning → RoleTable → State
 state_with m t = record { network = m; colours = colour_in t; table = t.role_of.items; head = head_in t; splits = t.splits }
 
 pub record IsSound {V : Type 0} (o : Operations V) (s : State) : Type 0 where
-  pub few : s.network.nodes ≤ 128
+  pub few : s.network.nodes ≤ most_nodes
   -- the table has an entry for each node
   pub entries : length s.table ≡ s.network.nodes
   -- roles are numbered from 0 in the order of their heads; each has a node, and its head is the lowest

@@ -1,5 +1,6 @@
 // What a row has columns for: each node, or each role by its head.
 ghost use Rattle.std.specs.Prelude.{◌≡◌, ℕ, ◌<◌, ◌≤◌, length};
+ghost use Rattle.network.specs.Meaning.{most_nodes};
 ghost use Rattle.arrayvec.specs.ArrayVec.{array_vec_len};
 ghost use Rattle.question.specs.Truth.{each_node, each_role};
 ghost use Rattle.question.specs.Truth as truth;
@@ -18,7 +19,7 @@ pub(crate) trait Columns {
 
     fn width(&self) -> usize
         ensures value { result ≡ width self.now }
-        ensures few { result ≤ 128 };
+        ensures few { result ≤ most_nodes };
 
     // The node that stands for column p.
     fn node(&self, p: usize) -> usize
@@ -39,12 +40,12 @@ pub(crate) trait Columns {
 #[derive(Clone, Copy)]
 pub(crate) struct EachNode {
     nodes: usize,
-    ghost few: { nodes ≤ 128 },
+    ghost few: { nodes ≤ most_nodes },
 }
 
 impl EachNode {
     pub(crate) fn of(nodes: usize) -> EachNode
-        requires { nodes ≤ 128 }
+        requires { nodes ≤ most_nodes }
         ensures { result.nodes ≡ nodes }
     {
         EachNode { nodes }

@@ -15,6 +15,7 @@ use super::role::Role;
 use super::step::Step;
 use arrayvec::ArrayVec;
 use measure::interface::Measure;
+use network::MOST_NODES;
 use network::interface::Editable;
 
 // Look and ask.
@@ -85,7 +86,7 @@ impl<N: Editable, M: Measure> Settled<N, M> {
     }
 
     /// The nodes of role r, in order, or 11.
-    pub fn members(&self, r: usize) -> Result<ArrayVec<u8, 128>, Fault>
+    pub fn members(&self, r: usize) -> Result<ArrayVec<u8, MOST_NODES>, Fault>
         ensures known { (r < role_count (settled_state self.now)) ↔ IsOk result }
         ensures refused { IfErr result (λ f. f ≡ Fault.Role) }
         ensures nodes { IfOk result (λ nodes. nodes.items ≡ nodes_of (settled_state self.now) r) }

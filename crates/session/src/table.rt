@@ -1,11 +1,13 @@
 // The table of roles.
 ghost use Rattle.std.specs.Prelude.{◌≡◌, ◌<◌, filter};
 ghost use Rattle.std.specs.List.{range_with_len};
+ghost use Rattle.network.specs.Meaning.{most_nodes};
 ghost use Rattle.equivalence.specs.Regular.{members};
 ghost use Rattle.session.specs.Roles.{Recorded};
 
 use super::role::Role;
 use arrayvec::ArrayVec;
+use network::MOST_NODES;
 
 // From the heads of the nodes.
 mod building;
@@ -18,9 +20,9 @@ mod splitting;
 // and its size.
 #[derive(Debug, Drop)]
 pub(crate) struct Table {
-    colours: [u8; 128],
-    role_of: ArrayVec<u8, 128>,
-    roles: ArrayVec<Role, 128>,
+    colours: [u8; MOST_NODES],
+    role_of: ArrayVec<u8, MOST_NODES>,
+    roles: ArrayVec<Role, MOST_NODES>,
     // How many roles were split since the starting classes.
     splits: usize,
     ghost recorded: { Recorded role_of.items roles.items },
@@ -50,7 +52,7 @@ impl Table {
 
     // The nodes of role r, in order.
     #[tactic(auto, using(crate::proofs::Ranges::filter_in, crate::proofs::Ranges::filter_out))]
-    pub(crate) fn members(&self, r: usize) -> ArrayVec<u8, 128>
+    pub(crate) fn members(&self, r: usize) -> ArrayVec<u8, MOST_NODES>
         ensures { let nodes = range_with_len 0 (nodes_in self.now) in
             result.items ≡ filter (members (role_in self.now) r) nodes }
     {
@@ -77,7 +79,7 @@ impl Table {
     }
 
     pub(crate) fn colour_of(&self, x: usize) -> u8
-        requires { x < 128 }
+        requires { x < most_nodes }
         ensures { result ≡ colour_in self.now x }
     {
         self.colours[x]

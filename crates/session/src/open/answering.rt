@@ -16,6 +16,7 @@ use super::Open;
 use arrayvec::ArrayVec;
 use equivalence::totals::total_over;
 use measure::interface::Measure;
+use network::MOST_NODES;
 use network::interface::Editable;
 use question::checking::check;
 use question::faults::Fault;
@@ -32,7 +33,7 @@ fn is_true(rows: &[u8], width: usize, k: usize, p: usize) -> bool
 impl<N: Editable, M: Measure> Open<N, M> {
     // The nodes that line k is true of, in order.
     #[tactic(auto, using(crate::proofs::Ranges::filter_in, crate::proofs::Ranges::filter_out))]
-    fn true_nodes<C: Columns>(&self, columns: &C, rows: &[u8], k: usize) -> ArrayVec<u8, 128>
+    fn true_nodes<C: Columns>(&self, columns: &C, rows: &[u8], k: usize) -> ArrayVec<u8, MOST_NODES>
         requires fits { C.nodes columns.now ≡ (state_of self.now).network.nodes }
         requires written { k * C.width columns.now + C.width columns.now ≤ length rows.now }
         ensures { let truth = marked (C.width columns.now) rows.now in

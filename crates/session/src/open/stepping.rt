@@ -18,11 +18,12 @@ use super::super::step::Step;
 use super::Open;
 use equivalence::leaving::leaving;
 use measure::interface::Measure;
+use network::MOST_NODES;
 use network::interface::Editable;
 
 impl<N: Editable, M: Measure> Open<N, M> {
     // Which nodes leave the role of `part`, by totals toward the listed nodes.
-    fn leaving(&self, part: usize, nodes: &[u8]) -> [bool; 128]
+    fn leaving(&self, part: usize, nodes: &[u8]) -> [bool; MOST_NODES]
         requires node { part < (state_of self.now).network.nodes }
         requires nodes { let n = (state_of self.now).network.nodes in All (λ y. y < n) nodes.now }
         ensures { let s = state_of self.now in

@@ -11,6 +11,7 @@ use super::super::role::Role;
 use super::Open;
 use arrayvec::ArrayVec;
 use measure::interface::Measure;
+use network::MOST_NODES;
 use network::interface::Editable;
 
 impl<N: Editable, M: Measure> Open<N, M> {
@@ -57,7 +58,7 @@ impl<N: Editable, M: Measure> Open<N, M> {
 
     /// The nodes of role r, in order, or 11.
     #[tactic(auto, using(crate::proofs::Keeping::numbered))]
-    pub fn members(&self, r: usize) -> Result<ArrayVec<u8, 128>, Fault>
+    pub fn members(&self, r: usize) -> Result<ArrayVec<u8, MOST_NODES>, Fault>
         ensures known { (r < role_count (state_of self.now)) ↔ IsOk result }
         ensures refused { IfErr result (λ f. f ≡ Fault.Role) }
         ensures nodes { IfOk result (λ nodes. nodes.items ≡ nodes_of (state_of self.now) r) }

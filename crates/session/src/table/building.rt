@@ -1,5 +1,6 @@
 // A table is built from the heads of its nodes.
 ghost use Rattle.std.specs.Prelude.{◌≡◌, ℕ, ◌<◌, [], ◌∷◌, ◌++◌, length};
+ghost use Rattle.network.specs.Meaning.{most_nodes};
 ghost use Rattle.equivalence.specs.Heads.{head_of};
 ghost use Rattle.equivalence.specs.Vetted.{table_of};
 ghost use Rattle.session.specs.Roles.{Headed};
@@ -9,10 +10,11 @@ ghost use Rattle.session.specs.declared.role.Role.{Role};
 use super::super::role::Role;
 use super::Table;
 use arrayvec::ArrayVec;
+use network::MOST_NODES;
 
 impl Table {
     // No nodes and no roles.
-    fn empty(colours: [u8; 128], splits: usize) -> Table
+    fn empty(colours: [u8; MOST_NODES], splits: usize) -> Table
         ensures colours { result.colours ≡ colours }
         ensures nodes { result.role_of.items ≡ [] }
         ensures roles { result.roles.items ≡ [] }
@@ -29,7 +31,7 @@ impl Table {
     // The next node begins a role.
     #[tactic(auto, using(crate::proofs::Records::begun))]
     fn begin(&mut self)
-        requires room { nodes_in self.old < 128 }
+        requires room { nodes_in self.old < most_nodes }
         ensures table { self.new.role_of.items ≡ self.old.role_of.items ++ count_in self.old ∷ [] }
         ensures roles { let role : Role = record { head = nodes_in self.old; size = 1 } in
             self.new.roles.items ≡ self.old.roles.items ++ role ∷ [] }
@@ -43,7 +45,7 @@ impl Table {
 
     // The next node joins role r.
     fn join(&mut self, r: usize)
-        requires room { nodes_in self.old < 128 }
+        requires room { nodes_in self.old < most_nodes }
         requires known { r < count_in self.old }
         ensures table { self.new.role_of.items ≡ self.old.role_of.items ++ r ∷ [] }
         ensures count { count_in self.new ≡ count_in self.old }
@@ -56,7 +58,7 @@ impl Table {
     }
 
     // The table in which heads[x] is the head of node x's role. One pass.
-    pub(super) fn of_heads(heads: &[u8], colours: [u8; 128], splits: usize) -> Table
+    pub(super) fn of_heads(heads: &[u8], colours: [u8; MOST_NODES], splits: usize) -> Table
         requires { Headed heads.now }
         ensures nodes { nodes_in result ≡ length heads.now }
         ensures heads { (x : ℕ) → x < length heads.now
