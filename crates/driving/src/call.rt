@@ -10,7 +10,7 @@ use session::role::Role;
 use session::step::Step;
 
 /// A call with its arguments, by its kind.
-#[derive(Clone, Copy)]
+#[derive(Clone, Copy, Debug)]
 pub enum Call<'a> {
     /// Alters ties or colours. An open session takes it.
     Edit(Edit),
@@ -23,7 +23,7 @@ pub enum Call<'a> {
 }
 
 /// A call that alters ties or colours.
-#[derive(Clone, Copy)]
+#[derive(Clone, Copy, Debug)]
 pub enum Edit {
     /// The tie byte from one node to another becomes this.
     Put(usize, usize, u8),
@@ -32,7 +32,7 @@ pub enum Edit {
 }
 
 /// A call that moves a session on.
-#[derive(Clone, Copy)]
+#[derive(Clone, Copy, Debug)]
 pub enum Move {
     Step,
     Settle,
@@ -40,14 +40,14 @@ pub enum Move {
 }
 
 /// A call that writes rows into an area.
-#[derive(Clone, Copy)]
+#[derive(Clone, Copy, Debug)]
 pub enum Write<'a> {
     Look(&'a [Line]),
     Ask(&'a [Line]),
 }
 
 /// A call that alters nothing and writes nothing.
-#[derive(Clone, Copy)]
+#[derive(Clone, Copy, Debug)]
 pub enum Tell {
     Roles,
     Splits,
