@@ -190,7 +190,8 @@ fn each_question_has_an_area_of_its_own(rt: HostRuntime) -> Result<(), Fail> {
             0, 0, 0, 0, 0, 1, 1, 1, 1, 1, 1, 1, 0, 0, 0, 0, 0, 1, 1, 1, 7
         ]
     );
-    // Ask's rows have a byte for each role: who has passed, who or what has no tie, and the exam that was passed.
+    // Ask's rows have a byte for each role: who has passed, who or what has no tie, and the exam
+    // that was passed.
     assert_eq!(rt;
         asked,
         [
