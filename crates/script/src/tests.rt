@@ -1,6 +1,6 @@
 // Scripts, and what they print.
 use super::faults::{Fault, Reason};
-use super::run::run;
+use super::player::run;
 use network::faults::Fault as NetworkFault;
 use question::faults::Fault as QuestionFault;
 use session::faults::Fault as SessionFault;
@@ -455,7 +455,7 @@ fn each_refusal_is_told_with_its_place(rt: HostRuntime) -> Result<(), Fail> {
         assert_eq!(rt;
             (fault.reason.number(), fault.reason.origin()),
             told,
-            "{words}"
+            "record {record}"
         );
         assert_eq!(rt; format!(in heap; "{fault}")?.as_str(), words);
     }
