@@ -4,7 +4,7 @@ ghost use Rattle.network.specs.Put.{put_after, put_answer};
 ghost use Rattle.script.specs.Networks.{enough, list_named, matrix_named, meant, meant_in};
 ghost use Rattle.script.specs.Networks.{two_mode_named};
 
-use network::{Editable, Fault, Matrix, MOST_NODES, Readable, Slot, SlotList, TwoMode};
+use network::{Editable, Fault, MOST_NODES, Matrix, Readable, Slot, SlotList, TwoMode};
 use std::alloc::{AllocError, Global};
 
 #[derive(Drop)]

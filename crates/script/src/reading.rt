@@ -144,14 +144,7 @@ fn read_tied(rest: &[u8]) -> Result<Record<'_>, Reason>
 }
 
 /// What a record says, or the first no of: a known mark (12), fields right in number and form (13).
-#[tactic(
-    auto,
-    using(
-        crate::proofs::FieldLaw::field_law,
-        crate::proofs::RecordLaw::record_law,
-        crate::proofs::MarkLaw::mark_law
-    )
-)]
+#[tactic(auto, using(crate::proofs::FieldLaw::field_law, crate::proofs::RecordLaw::record_law, crate::proofs::MarkLaw::mark_law))]
 pub fn read(line: &[u8]) -> Result<Record<'_>, Reason>
     ensures said { shown result ≡ parse line.now }
     ensures fields { FieldLaw }
