@@ -5,11 +5,10 @@
 // What goes wrong.
 mod trouble;
 
-use equivalence::vetting::vet;
-use measure::kinds::Kinds;
-use network::interface::Editable;
-use network::matrix::Matrix;
-use question::line::Line;
+use equivalence::vet;
+use measure::Kinds;
+use network::{Editable, Matrix};
+use question::Line;
 use session::open::Open;
 use session::role::Role;
 use trouble::Trouble;

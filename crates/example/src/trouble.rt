@@ -6,13 +6,13 @@ use thiserror::Error;
 #[derive(Drop, Error)]
 pub enum Trouble {
     #[error("{0}")]
-    Network(#[from] network::faults::Fault),
+    Network(#[from] network::Fault),
     #[error("{0}")]
-    Vet(#[from] equivalence::faults::Fault),
+    Vet(#[from] equivalence::Fault),
     #[error("{0}")]
     Session(#[from] session::faults::Fault),
     #[error("{0}")]
-    Question(#[from] question::faults::Fault),
+    Question(#[from] question::Fault),
     #[error("out of memory")]
     Memory(#[from] AllocError),
     #[error("the output cannot be written")]

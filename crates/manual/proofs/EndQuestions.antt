@@ -1,5 +1,5 @@
 -- What a question of who holds a test toward the nodes that do not hold another is true of, under each measure.
-use Rattle.std.proofs.Common.{◌≡◌, ℕ, ◌-◌, ◌<◌, Bool, true, false, not, ◌&&◌, eqb, ltb, List, [], ◌∷◌, ◌++◌, length, map, Option, Some, None, Decides, refl, ap, ◌∙◌, inl, inr, arith}
+use Rattle.std.proofs.Common.{◌≡◌, ℕ, ◌-◌, ◌<◌, Bool, true, false, not, eqb, ltb, List, [], ◌∷◌, ◌++◌, length, map, Option, Some, None, Decides, refl, ap, ◌∙◌, inl, inr, arith}
 use mathlib.Core.Path.{fun_ext}
 use Rattle.std.specs.List.{fold}
 use Rattle.std.proofs.lemmas.Bool.{cases_Bool, eqb-true, eq-eqb, lt-ltb, ltb-true}
@@ -8,7 +8,7 @@ use Rattle.network.specs.Meaning.{Meaning}
 use Rattle.measure.specs.Measures.{Operations}
 use Rattle.measure.specs.Bits.{bit}
 use Rattle.measure.specs.Kinds.{kinds}
-use Rattle.measure.specs.Bundles.{bundles, bundle}
+use Rattle.measure.specs.Bundles.{bundles}
 use Rattle.measure.specs.Tally.{tally}
 use Rattle.equivalence.specs.Totals.{total}
 use Rattle.equivalence.specs.Regular.{Table}
@@ -18,12 +18,12 @@ use Rattle.equivalence.proofs.RegularEquivalence.{out_member}
 use Rattle.equivalence.proofs.MultiplexEquivalence.{bundle_member}
 use Rattle.equivalence.proofs.EquitablePartition.{true_counts}
 use Rattle.question.specs.Lines.{claim}
-use Rattle.question.specs.Truth.{Places, row, claimed, line_row, rows, answer, each_node}
+use Rattle.question.specs.Truth.{Columns, row, claimed, line_row, rows, answer, each_node}
 use Rattle.question.specs.declared.line.Line.{Line}
 use Rattle.question.specs.declared.line.Claim.{Claim}
 use Rattle.manual.specs.Asking.{Means, toward_claims, TiedToAnEnd, TiedOneWay, TiedToTwoEnds, any}
 
-module _ {V : Type 0} (o : Operations V) (m : Meaning) (colours : Table) (at : Places) where
+module _ {V : Type 0} (o : Operations V) (m : Meaning) (colours : Table) (at : Columns) where
   abbrev claim_row : (ℕ → ℕ → Bool) → Option Claim → ℕ → Bool
   claim_row told says p = elim says [ Some c ↦ claimed o m colours at told c p | None ↦ false ]
 

@@ -1,9 +1,11 @@
 -- Whom the last rows name, after ask and after look.
 use Rattle.std.proofs.Common.{◌≡◌, ℕ, ◌+◌, ◌-◌, ◌*◌, ◌<◌, ◌≤◌, Bool, true, false, cond, eqb, List, length, take, drop, filter, slice_index, Ok, MatchResult, refl, sym, ap, ◌∙◌, arith}
 use Rattle.std.specs.List.{range_with_len}
+use Rattle.std.specs.Result.{IsOk}
+use Rattle.std.proofs.lemmas.Bool.Decides.{nat_tests}
 use Rattle.std.proofs.lemmas.List.{get_or-take, get_or-drop, length-take-le, length-drop}
 use Rattle.measure.specs.Measures.{Operations}
-use Rattle.question.specs.Checks.{answer_start, Askable, Refuses}
+use Rattle.question.specs.Checks.{answer_start, lines_check, Askable, Refuses}
 use Rattle.question.specs.Truth.{answer, each_node}
 use Rattle.question.specs.declared.line.Line.{Line}
 use Rattle.question.specs.declared.faults.Fault.{Fault}
@@ -27,6 +29,10 @@ room : (lines : List Line) (width size start : ℕ) → answer_start lines width
 room lines width size start e =
     let law : MatchResult {T = ℕ} {E = Fault} (Ok start) (λ start. Askable lines width size × (start + width ≡ length lines * width)) (Refuses lines width size) = rw e at (checks_law lines width size) in
     omega (arith, law.0.room, law.1)
+
+-- four lines that pass are never refused, where the area has room for them at 128 columns
+pub four_start : (lines : List Line) (width : ℕ) → length lines ≡ 4 → lines_check 0 lines ≡ Ok tt → width ≤ 128 → IsOk (answer_start lines width 512)
+four_start lines width four passes narrow = rw (four, passes) (grind (arith, nat_tests, narrow))
 
 ones_row :
     (lines : List Line) (area : List ℕ) (n width start : ℕ) (p : ℕ → Bool)

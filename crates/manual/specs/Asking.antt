@@ -7,7 +7,7 @@
 --   TiedOneWay       x is tied one way to a node with no mutual tie
 --   any              every node
 --   TiedToTwoEnds    x is tied to two nodes or more that are tied to none
---   ones             the places of the bytes that are 1, in order
+--   ones             the columns of a row whose bytes are 1, in order
 --   Answered         the nodes that a question is true of, and the roles of just these nodes
 use Rattle.std.specs.Prelude.{◌≡◌, ℕ, ◌<◌, ◌≤◌, Bool, true, ◌==◌, ◌↔◌, List, [], ◌∷◌, length, filter, slice_index, Option, Some, Decides, Contains}
 use Rattle.std.specs.List.{range_with_len}

@@ -8,15 +8,13 @@ ghost use Rattle.question.specs.Checks.{lines_check};
 ghost use Rattle.question.specs.Lines.{claim};
 ghost use Rattle.question.specs.Truth.{answer, each_node};
 ghost use Rattle.session.specs.SettledSessions.{settled_state};
-ghost use Rattle.manual.specs.Asking.{Means, TiedToAnEnd, TiedOneWay, TiedToTwoEnds, toward_claims, ones, Answered};
+ghost use Rattle.manual.specs.Asking.{Answered, Means, TiedOneWay, TiedToAnEnd, TiedToTwoEnds};
+ghost use Rattle.manual.specs.Asking.{ones, toward_claims};
 
-use equivalence::classical::Classical;
-use measure::bundles::Bundles;
-use measure::interface::Measure;
-use measure::kinds::Kinds;
-use measure::tally::Tally;
+use equivalence::Classical;
+use measure::{Bundles, Kinds, Measure, Tally};
 use network::{Editable, Readable};
-use question::line::Line;
+use question::Line;
 use session::settled::Settled;
 use std::alloc::{AllocError, Global};
 
@@ -99,18 +97,18 @@ pub(crate) struct Answer {
     pub(crate) nodes: Vec<usize>,
 }
 
-// The places where a row is true, in order. Only memory can fail.
+// The columns at which a row is true, in order. Only memory can fail.
 #[tactic(auto, using(session::proofs::Ranges::filter_in, session::proofs::Ranges::filter_out))]
-fn places(heap: Global, row: &[u8]) -> Result<Vec<usize>, AllocError>
-    ensures { IfOk result (λ places. places.items ≡ ones row.now) }
+fn ones(heap: Global, row: &[u8]) -> Result<Vec<usize>, AllocError>
+    ensures { IfOk result (λ columns. columns.items ≡ ones row.now) }
 {
-    let mut places = Vec::new(heap);
-    for (place, &byte) in row.iter().enumerate() {
+    let mut ones = Vec::new(heap);
+    for (column, &byte) in row.iter().enumerate() {
         if byte == 1 {
-            places.push(place)?;
+            ones.push(column)?;
         }
     }
-    Ok(places)
+    Ok(ones)
 }
 
 // Asks each role, and then each node. Only memory can fail.
@@ -127,8 +125,8 @@ pub(crate) fn answered<N: Editable, M: Measure>(
     // Four lines at 128 nodes. So no question of four lines that pass is refused.
     let mut area = [0; 512];
     let start = settled.ask(question, &mut area).unwrap();
-    let roles = places(heap, &area[start..start + settled.roles()])?;
+    let roles = ones(heap, &area[start..start + settled.roles()])?;
     let start = settled.look(question, &mut area).unwrap();
-    let nodes = places(heap, &area[start..start + settled.network().nodes()])?;
+    let nodes = ones(heap, &area[start..start + settled.network().nodes()])?;
     Ok(Answer { roles, nodes })
 }

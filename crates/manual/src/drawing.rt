@@ -19,9 +19,10 @@ fn tied<N: Editable + Drop>(mut network: N, ties: &[(usize, usize)]) -> Result<N
     Ok(network)
 }
 
-// The matrix of n nodes over the memory, with a tie of kind 0 for each pair, built through the calls.
+// The matrix of n nodes over the memory, with a tie of kind 0 for each pair.
 pub(crate) fn drawn(n: usize, memory: Vec<u8>, ties: &[(usize, usize)]) -> Result<Matrix, Fault>
-    ensures { MatchResult result (λ m. drawing n (vec_len memory) ties.now ≡ Ok (ties_of m)) (λ f. drawing n (vec_len memory) ties.now ≡ Err f) }
+    ensures { let drawn = drawing n (vec_len memory) ties.now in
+        MatchResult result (λ m. drawn ≡ Ok (ties_of m)) (λ f. drawn ≡ Err f) }
 {
     Matrix::check(n, &memory)?;
     tied(Matrix::new(n, memory), ties)
@@ -34,7 +35,8 @@ pub(crate) fn drawn_sides(
     memory: Vec<u8>,
     ties: &[(usize, usize)],
 ) -> Result<TwoMode, Fault>
-    ensures { MatchResult result (λ m. drawing_sides a b (vec_len memory) ties.now ≡ Ok (ties_of m)) (λ f. drawing_sides a b (vec_len memory) ties.now ≡ Err f) }
+    ensures { let drawn = drawing_sides a b (vec_len memory) ties.now in
+        MatchResult result (λ m. drawn ≡ Ok (ties_of m)) (λ f. drawn ≡ Err f) }
 {
     TwoMode::check(a, b, &memory)?;
     tied(TwoMode::new(a, b, memory), ties)

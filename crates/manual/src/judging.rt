@@ -4,8 +4,7 @@ ghost use Rattle.equivalence.specs.Vetted.{Vetted, YesExactly};
 ghost use Rattle.manual.specs.Judging.{answer_of};
 
 use super::words::Verdict;
-use equivalence::classical::Classical;
-use equivalence::faults::Fault;
+use equivalence::{Classical, Fault};
 use network::{Editable, Readable};
 use session::settled::Settled;
 

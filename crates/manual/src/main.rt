@@ -1,5 +1,6 @@
-// Settles a dispute over a manual page: which of the role tables that the page prints are regular, and under which measure;
-// which roles each of its networks settles into, and whom a question is true of there.
+// Settles a dispute over a manual page: which of the role tables that the page prints are regular,
+// and under which measure; which roles each of its networks settles into, and whom a question is
+// true of there.
 
 #![tactic(auto)]
 
@@ -16,11 +17,9 @@ mod words;
 
 use asking::{Asks, answered};
 use drawing::{drawn, drawn_sides};
-use equivalence::classical::Classical;
+use equivalence::Classical;
 use judging::{confirmed, judged};
-use measure::bundles::Bundles;
-use measure::kinds::Kinds;
-use measure::tally::Tally;
+use measure::{Bundles, Kinds, Tally};
 use network::{Editable, NoLoops, Readable, Turned};
 use session::open::Open;
 use session::settled::Settled;
@@ -83,7 +82,8 @@ fn ask<N: Editable, M: Asks + fmt::Display>(
     Ok(())
 }
 
-// Settles a session, prints its roles, the vet's verdict on them and what they answer, and opens it again.
+// Settles a session, prints its roles, the vet's verdict on them and what they answer, and opens it
+// again.
 fn settle<N: Editable + Drop, M: Asks + Drop + fmt::Display>(
     rt: &(impl Print + AllocGlobal),
     session: Open<N, M>,

@@ -6,9 +6,9 @@ use thiserror::Error;
 #[derive(Drop, Error)]
 pub enum Trouble {
     #[error("the network refuses with {}", .0.number())]
-    Network(#[from] network::faults::Fault),
+    Network(#[from] network::Fault),
     #[error("the vet refuses with {}", .0.number())]
-    Vet(#[from] equivalence::faults::Fault),
+    Vet(#[from] equivalence::Fault),
     #[error("out of memory")]
     Memory(#[from] AllocError),
     #[error("the output cannot be written")]

@@ -1,10 +1,11 @@
 // What the page says.
 ghost use Rattle.std.specs.Prelude.{Decides, Some};
 ghost use Rattle.manual.specs.Drawing.{Isolated};
-ghost use Rattle.manual.specs.Words.{verdict_words, outcome_words, count_words, role_words, those_words, answer_words};
+ghost use Rattle.manual.specs.Words.{answer_words, count_words, outcome_words, role_words};
+ghost use Rattle.manual.specs.Words.{those_words, verdict_words};
 
 use super::asking::Answer;
-use measure::interface::Measure;
+use measure::Measure;
 use network::{Editable, Fault, Readable};
 use session::role::Role;
 use session::settled::Settled;
@@ -73,7 +74,6 @@ impl<N: Readable> fmt::Display for Ties<'_, N> {
     fn fmt<W: fmt::Write>(&self, f: &mut fmt::Formatter<W>) -> fmt::Result {
         let network = self.0;
         let n = network.nodes();
-        // Two `for`s: a chain would carry the separator and a failed write through its closures.
         let mut separator = "";
         for i in 0..n {
             if isolated(network, i) {

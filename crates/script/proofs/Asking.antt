@@ -1,4 +1,4 @@
--- A question of lines that pass is never refused, where the area has room for 32 lines at 128 places.
+-- A question of lines that pass is never refused, where the area has room for 32 lines at 128 columns.
 use Rattle.std.proofs.Common.{◌≡◌, ℕ, ◌*◌, ◌<◌, ◌≤◌, List, length, Ok, arith}
 use Rattle.std.specs.Result.{IsOk}
 use Rattle.std.proofs.lemmas.Nat.{mul-le}

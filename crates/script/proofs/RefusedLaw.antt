@@ -1,8 +1,8 @@
 -- What a refusal leaves, and what is refused for its stage or its form.
 --
---   Beneath          a refusal of a layer below
+--   Beneath          a refusal of a part below
 --   Formal           a refusal of the mark or the fields
---   Deep             an outcome that is refused by a layer below or not at all
+--   Deep             an outcome that is refused by a part below or not at all
 --   Decided          what comes of what belongs to the phase, and of what does not
 --   acted            what is done by what was read
 --   Told             what is read of a record

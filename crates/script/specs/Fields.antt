@@ -1,5 +1,6 @@
 -- The fields of a record.
 --
+--   rest_of        what is left of the fields of a record of the program
 --   plain          digits and nothing else, at least one, without a leading zero
 --   number         the number that digits write in base ten, at most 65,535
 --   field_end      where the number that bytes begin with ends: at the next space, or with them
@@ -10,6 +11,10 @@ use Rattle.std.specs.Prelude.{ℕ, Bool, cond, not, ◌&&◌, ◌||◌, ◌==◌
 use Rattle.std.specs.List.{position_or_len}
 use Rattle.std.specs.Str.{all_ascii_digits}
 use Rattle.std.specs.Str.Parse.{digits_value}
+use Rattle.script.specs.declared.reading.fields.Fields.{Fields}
+
+abbrev pub rest_of : Fields → List ℕ
+rest_of fields = fields.rest.now
 
 abbrev pub plain : List ℕ → Bool
 plain digits = all_ascii_digits digits && (nat_lt 0 (length digits) && (length digits == 1 || not (slice_index digits 0 == 48)))

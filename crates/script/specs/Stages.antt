@@ -18,7 +18,7 @@ use Rattle.network.specs.declared.faults.Fault as network
 use Rattle.question.specs.declared.line.Line.{Line}
 use Rattle.session.specs.Sessions.{colour_answer}
 use Rattle.driving.specs.Book.{Book, opened, after_put, after_colour}
-use Rattle.script.specs.Drafts.{add_answer}
+use Rattle.script.specs.Drafts.{add_answer, lines_of}
 use Rattle.script.specs.Networks.{enough, list_named, matrix_named, meant, two_mode_named}
 use Rattle.script.specs.Records.{Said, parse}
 use Rattle.script.specs.Words.{remark_line}
@@ -34,7 +34,7 @@ pub data Phase : Type 0 where
   Work : Chosen → Book → List Line → Phase
 
 abbrev pub work_phase : work.Work → Phase
-work_phase w = Phase.Work (measure_of w.session) (book_of w.session) w.question.value.lines.items
+work_phase w = Phase.Work (measure_of w.session) (book_of w.session) (lines_of w.question.value)
 
 abbrev pub phase_of : Stage → Phase
 phase_of stage.Network = Phase.Network

@@ -1,12 +1,10 @@
 // A question that is added to, line by line.
 ghost use Rattle.std.specs.Prelude.{◌≡◌, ◌≤◌, Ok, [], length};
 ghost use Rattle.question.specs.Checks.{lines_check};
-ghost use Rattle.script.specs.Drafts.{add_answer, lines_after};
 
 use arrayvec::ArrayVec;
 use question::checking::check_line;
-use question::faults::Fault;
-use question::line::Line;
+use question::{Fault, Line};
 
 // Up to 32 lines, each of which passes.
 #[derive(Drop)]
@@ -16,8 +14,10 @@ pub(crate) struct Draft {
 }
 
 impl Draft {
+    ghost use Rattle.script.specs.Drafts.{add_answer, lines_after, lines_of};
+
     pub(crate) fn new() -> Draft
-        ensures { result.lines.items ≡ [] }
+        ensures { lines_of result ≡ [] }
     {
         Draft {
             lines: ArrayVec::new(),
@@ -25,7 +25,7 @@ impl Draft {
     }
 
     pub(crate) fn lines(&self) -> &[Line]
-        ensures lines { result.now ≡ self.now.lines.items }
+        ensures lines { result.now ≡ lines_of self.now }
         ensures passes { lines_check 0 result.now ≡ Ok tt }
         ensures few { length result.now ≤ 32 }
     {
@@ -33,7 +33,7 @@ impl Draft {
     }
 
     pub(crate) fn clear(&mut self)
-        ensures { self.new.lines.items ≡ [] }
+        ensures { lines_of self.new ≡ [] }
     {
         self.lines.clear();
     }
@@ -41,8 +41,8 @@ impl Draft {
     // One line more, or the first no of: fewer than 32 lines before it (6), a known code (7), only
     // earlier lines (8).
     pub(crate) fn add(&mut self, line: Line) -> Result<(), Fault>
-        ensures answer { result ≡ add_answer self.old.lines.items line }
-        ensures lines { self.new.lines.items ≡ lines_after self.old.lines.items line }
+        ensures answer { result ≡ add_answer (lines_of self.old) line }
+        ensures lines { lines_of self.new ≡ lines_after (lines_of self.old) line }
     {
         if self.lines.is_full() {
             return Err(Fault::Lines);

@@ -16,9 +16,9 @@ pub enum Reason {
     Stage,
     /// The script has more than 32,768 bytes.
     Length,
-    Network(network::faults::Fault),
+    Network(network::Fault),
     Session(session::faults::Fault),
-    Question(question::faults::Fault),
+    Question(question::Fault),
 }
 
 impl Reason {
@@ -37,7 +37,8 @@ impl Reason {
         }
     }
 
-    /// The part of the engine that refuses, by its name: the script, or the origin of the fault below.
+    /// The part of the engine that refuses, by its name: the script, or the origin of the fault
+    /// below.
     pub fn origin(self) -> &'static str
         ensures { result.now ≡ origin self }
     {

@@ -1,9 +1,20 @@
-// Scripts: records in, the answer out.
+//! Scripts: the engine driven by text, one record a line.
+//!
+//! A script names a network and a measure, puts ties, colours nodes and asks. `run` plays it: what
+//! it prints is appended to the bytes that are handed, and its refusals are given in order, each a
+//! [`Fault`] that says which record is refused, where that begins and why. A refused record prints
+//! one line and alters nothing. What is printed is a function of the bytes of the script, and the
+//! contract of `run` has the laws of all scripts. `read` tells what one [`Record`] says.
 
 #![tactic(auto)]
 
+pub use faults::{Fault, Reason};
+pub use player::{LIMIT, run};
+pub use reading::read;
+pub use record::Record;
+
 // A whole script.
-pub mod run;
+pub mod player;
 // Why a record is refused.
 pub mod faults;
 // What a record says.

@@ -6,9 +6,9 @@ ghost use Rattle.session.specs.SettledSessions.{settled_state};
 ghost use Rattle.script.specs.Listings.{heads, role_total, settled_lines, split_total, true_lines};
 
 use super::lines::{print_node, print_totals, print_true};
-use measure::interface::Measure;
+use measure::Measure;
 use network::{Editable, Readable};
-use question::line::Line;
+use question::Line;
 use session::settled::Settled;
 use std::io;
 

@@ -1,5 +1,6 @@
 // From the bytes of a record to what it says.
 ghost use Rattle.std.specs.Prelude.{◌≡◌};
+ghost use Rattle.script.specs.Fields.{rest_of};
 ghost use Rattle.script.specs.Records.{ended, parse, said_in, shown};
 ghost use Rattle.script.specs.Records.{parse_and, parse_colour, parse_matrix, parse_not};
 ghost use Rattle.script.specs.Records.{parse_of_colour, parse_put, parse_slots, parse_tied};
@@ -11,7 +12,7 @@ ghost use Rattle.script.specs.RecordLaw.{RecordLaw};
 use super::faults::Reason;
 use super::record::Record;
 use fields::Fields;
-use question::line::Line;
+use question::Line;
 
 // The fields behind a mark.
 mod fields;
@@ -19,7 +20,7 @@ mod fields;
 impl<'a> Fields<'a> {
     // The record, where no byte is left.
     fn end(self, what: Record<'a>) -> Result<Record<'a>, Reason>
-        ensures { shown result ≡ ended (said_in what.entry) self.entry.rest.now }
+        ensures { shown result ≡ ended (said_in what.entry) (rest_of self.entry) }
     {
         if self.is_empty() {
             Ok(what)

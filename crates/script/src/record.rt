@@ -1,5 +1,5 @@
 // What a record says.
-use question::line::Line;
+use question::Line;
 
 /// A record of a script, taken apart. Numbers are at most 65,535, and bytes 255.
 #[derive(Clone, Copy)]

@@ -1,6 +1,6 @@
 // Scripts, and what they print.
 use super::faults::{Fault, Reason};
-use super::run::run;
+use super::player::run;
 use network::faults::Fault as NetworkFault;
 use question::faults::Fault as QuestionFault;
 use session::faults::Fault as SessionFault;
@@ -445,18 +445,18 @@ fn each_refusal_is_told_with_its_place(rt: HostRuntime) -> Result<(), Fail> {
     let mut out = Vec::new(heap);
     let faults = run(script, heap, &mut out)?;
     assert_eq!(rt; faults.len(), refusals.len());
-    for (&fault, ((reason, record, offset), (number, origin), words)) in faults
-        .iter()
-        .zip(refusals)
-    {
+    for (&fault, ((reason, record, offset), told, words)) in faults.iter().zip(refusals) {
         let wanted = Fault {
             reason,
             record,
             offset,
         };
         assert_eq!(rt; fault, wanted);
-        assert_eq!(rt; fault.reason.number(), number, "{words}");
-        assert!(rt; fault.reason.origin() == origin, "{words}");
+        assert_eq!(rt;
+            (fault.reason.number(), fault.reason.origin()),
+            told,
+            "record {record}"
+        );
         assert_eq!(rt; format!(in heap; "{fault}")?.as_str(), words);
     }
     Ok(())

@@ -12,12 +12,9 @@ ghost use Rattle.script.specs.Works.{Chosen, book_of, go_by, measure_of};
 use super::any_network::AnyNetwork;
 use super::draft::Draft;
 use super::listing::{print_answer, print_roles};
-use measure::bundles::Bundles;
-use measure::interface::Measure;
-use measure::kinds::Kinds;
-use measure::tally::Tally;
+use measure::{Bundles, Kinds, Measure, Tally};
 use network::Editable;
-use question::line::Line;
+use question::Line;
 use session::open::Open;
 use std::alloc::{AllocError, Global};
 use std::io;
@@ -52,7 +49,7 @@ pub(crate) enum AnySession {
 }
 
 impl AnySession {
-    pub(crate) fn put(&mut self, i: usize, j: usize, b: u8) -> Result<(), network::faults::Fault>
+    pub(crate) fn put(&mut self, i: usize, j: usize, b: u8) -> Result<(), network::Fault>
         ensures answer { result ≡ put_answer (book_of self.old).network i j b }
         ensures book { book_of self.new ≡ after_put (book_of self.old) i j b }
         ensures measure { measure_of self.new ≡ measure_of self.old }
@@ -107,6 +104,7 @@ pub(crate) struct Work {
 }
 
 impl Work {
+    ghost use Rattle.script.specs.Drafts.{lines_of};
     ghost use Rattle.script.specs.Stages.{Phase, work_phase};
 
     // With no question yet.
@@ -147,7 +145,7 @@ impl Work {
         ensures work { let by = measure_of self.session in
             let book = book_of self.session in
             IfOk result (λ next. work_phase next ≡ Phase.Work by book []) }
-        ensures printed { let lines = self.question.value.lines.items in
+        ensures printed { let lines = lines_of self.question.value in
             let printed = go_by (measure_of self.session) (book_of self.session) lines in
             OnOk result (out.new.items ≡ out.old.items ++ printed) }
     {

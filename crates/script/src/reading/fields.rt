@@ -1,6 +1,6 @@
 // The fields of a record: each is a space, and then a number in base ten.
 ghost use Rattle.std.specs.Prelude.{◌≡◌, ◌==◌, length, OnSome};
-ghost use Rattle.script.specs.Fields.{after_field, byte_field, field, number};
+ghost use Rattle.script.specs.Fields.{after_field, byte_field, field, number, rest_of};
 
 use crate::cutting::len_before;
 use std::str;
@@ -24,21 +24,21 @@ pub(super) struct Fields<'a> {
 
 impl<'a> Fields<'a> {
     pub(super) fn of(rest: &'a [u8]) -> Fields<'a>
-        ensures { result.rest.now ≡ rest.now }
+        ensures { rest_of result ≡ rest.now }
     {
         Fields { rest }
     }
 
     pub(super) fn is_empty(&self) -> bool
-        ensures { result ≡ (length self.now.rest.now == 0) }
+        ensures { result ≡ (length (rest_of self.now) == 0) }
     {
         self.rest.is_empty()
     }
 
     // The next field, none where it is missing or is no number.
     pub(super) fn number(&mut self) -> Option<usize>
-        ensures value { result ≡ field self.old.rest.now }
-        ensures rest { OnSome result (self.new.rest.now ≡ after_field self.old.rest.now) }
+        ensures value { result ≡ field (rest_of self.old) }
+        ensures rest { OnSome result (rest_of self.new ≡ after_field (rest_of self.old)) }
     {
         let [b' ', after @ ..] = self.rest else {
             return None;
@@ -50,8 +50,8 @@ impl<'a> Fields<'a> {
 
     // The next field, none where it is not at most 255.
     pub(super) fn byte(&mut self) -> Option<u8>
-        ensures value { result ≡ byte_field self.old.rest.now }
-        ensures rest { OnSome result (self.new.rest.now ≡ after_field self.old.rest.now) }
+        ensures value { result ≡ byte_field (rest_of self.old) }
+        ensures rest { OnSome result (rest_of self.new ≡ after_field (rest_of self.old)) }
     {
         u8::try_from(self.number()?).ok()
     }

@@ -1,7 +1,18 @@
-use Rattle.std.proofs.Common.{ap, sym, ◌∙◌}
+use Rattle.std.proofs.Common.{ap, subst, sym, ◌∙◌, ◌≤◌, arith}
+use Rattle.std.specs.Result.{IsOk}
+use Rattle.network.proofs.Counting.{count_below_le}
+use Rattle.equivalence.specs.Heads.{is_head}
 use Rattle.session.specs.SettledSessions.{settled_state}
-use Rattle.manual.proofs.LastRows.{answered}
+use Rattle.session.specs.States.{role, role_count}
+use Rattle.manual.proofs.LastRows.{answered, four_start}
 use Rattle.manual.proofs.asking.answered.Goals as goal
+
+pub unwrap-start-requires : goal.unwrap-start-requires
+unwrap-start-requires g c =
+    let s = c.args.settled.now in
+    let state = settled_state s in
+    let narrow : role_count state ≤ 128 = omega (arith, s.session.sound.few, count_below_le (is_head (role state)) state.network.nodes) in
+    subst IsOk (sym c.ask.ensures.start) (four_start c.args.question.now (role_count state) (grind arith) c.requires narrow)
 
 pub returns : goal.returns
 returns g c =

@@ -4,7 +4,7 @@ use Rattle.script.specs.Players.{played_in}
 use Rattle.script.specs.Transcripts.{Played, blank, limit, play, records}
 use Rattle.script.proofs.Cuts.{after_shorter, cut_length, none_left, some_left}
 use Rattle.script.proofs.Sequences.{count_after, faults_on, offset_after, printed_on, records_first}
-use Rattle.script.proofs.run.play_all.Goals as goal
+use Rattle.script.proofs.player.play_all.Goals as goal
 
 pub loop-rest-preserved : goal.loop-rest-preserved
 loop-rest-preserved c =

@@ -1,7 +1,7 @@
 use Rattle.std.proofs.Common.{◌≡◌, ◌+◌, ◌<◌, ◌≤◌, fold, length}
 use Rattle.script.specs.Players.{played_in}
 use Rattle.script.specs.Transcripts.{play, records}
-use Rattle.script.proofs.run.play_all.Given as goal
+use Rattle.script.proofs.player.play_all.Given as goal
 
 -- what is left leads to the end of the whole, and each record takes a byte at least
 abbrev pub invariant-loop-rest : goal.invariant-loop-rest

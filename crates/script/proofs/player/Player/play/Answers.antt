@@ -4,8 +4,8 @@ use Rattle.script.specs.Stages.{outcome, phase_of}
 use Rattle.script.specs.Words.{refusal_line}
 use Rattle.script.proofs.Playing.{outcome_accepted, outcome_refused}
 use Rattle.script.specs.Players.{played_in}
-use Rattle.script.proofs.run.Player.play.Goals as goal
-use Rattle.script.proofs.run.Player.play.Goals.{in-Err+in_ok-print_refusal+in_ok-push, in_default}
+use Rattle.script.proofs.player.Player.play.Goals as goal
+use Rattle.script.proofs.player.Player.play.Goals.{in-Err+in_ok-print_refusal+in_ok-push, in_default}
 
 pub returns : goal.returns
 returns c =
