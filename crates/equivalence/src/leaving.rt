@@ -7,8 +7,8 @@ ghost use Rattle.equivalence.specs.Vetted.{table_of};
 
 use super::totals::total_over;
 use measure::interface::Measure;
-use network::interface::Readable;
 use network::MOST_NODES;
+use network::interface::Readable;
 
 /// Flags the nodes of part's role whose total toward the listed nodes is not part's. One weigh
 /// for each node of the role and each listed node. The engine's own, so that the table has a byte
