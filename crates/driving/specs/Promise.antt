@@ -1,8 +1,10 @@
 -- The promise: of a settled session, and of a list of calls.
 --
--- What a reader has to know first, in this order, is imported below in this order: what a network means, a measure's
--- operations, a regular table, the coarsest one, where question and answer stand in an area, what a session holds,
--- how it begins and ends, the book, and what each call does.
+-- A reader needs, in this order: what a network means (Meaning) and when a put is refused (Put), of `network`; what a
+-- measure is (Measures); totals, regular, heads, starting classes and the coarsest table (Totals, Regular, Heads,
+-- Starting, Coarsest), of `equivalence`; what a question is true of and where its rows stand (Lines, Truth, Areas), of
+-- `question`; what a session holds, and how it begins and ends (States, Sessions); the book, and what each call does
+-- (Book, Courses, Turns), here.
 --
 --   Promise         a session has the ties and colours of the book and the coarsest table, and its roles answer as the network does
 --   At              the exchange at place k of a list
