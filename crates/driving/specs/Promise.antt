@@ -2,8 +2,9 @@
 --
 -- A reader needs, in this order: what a network means (Meaning) and when a put is refused (Put), of `network`; what a
 -- measure is (Measures); totals, regular, heads, starting classes and the coarsest table (Totals, Regular, Heads,
--- Starting, Coarsest), of `equivalence`; what a question is true of and where its rows stand (Lines, Truth, Areas), of
--- `question`; what a session holds, and how it begins and ends (States, Sessions); the book, and what each call does
+-- Starting, Vetted, Coarsest), of `equivalence`; when a question is answered, what it is true of and where its rows
+-- stand (Lines, Checks, Truth, Areas), of `question`; what a session holds, how it begins and ends, and where it
+-- answers (States, Sessions, Questions); the book, and what each call does
 -- (Book, Courses, Turns), here.
 --
 --   Promise         a session has the ties and colours of the book and the coarsest table, and its roles answer as the network does
@@ -33,7 +34,7 @@ pub record Promise {V : Type 0} (o : Operations V) (book : Book) (s : State) : T
   pub colours : s.colours ≡ book.colours
   -- the table is regular and within the starting classes, and every other such table refines it
   pub coarsest : Coarsest o s.network (classes s) (role s)
-  -- a question that is admitted has for a node's role, where ask leaves it, what it has for the node, where look leaves it
+  -- a question that is answered has, in the last row of ask, at a node's role what it has in the last row of look at the node
   pub answers :
       (lines : List Line) (asked looked : List ℕ) (i j x : ℕ)
       → ask_answer s lines asked ≡ Ok i

@@ -2,11 +2,11 @@
 --
 --   edit_reply   what an edit replies, by the book
 --   Edits        an edit, from state s to state t
---   Moves    a call that moves the session on
---   wrote    what a call that writes replies, and what the area then holds
---   told     what a call that tells replies
---   Does     what a call does that is taken
---   Turn     the same of any call; one that is not taken leaves area and state as they are
+--   Moves        a call that moves the session on
+--   wrote        what a call that writes replies, and what the area then holds
+--   told         what a call that tells replies
+--   Does         what a call does that is taken
+--   Turn         the same of any call; one that is not taken leaves area and state as they are
 use Rattle.std.specs.Prelude.{◌≡◌, ◌↔◌, ℕ, Bool, List, MatchBool}
 use Rattle.network.specs.Put.{put_answer, put_after}
 use Rattle.measure.specs.Measures.{Operations}

@@ -9,8 +9,7 @@ use equivalence::vet;
 use measure::Kinds;
 use network::{Editable, Matrix};
 use question::Line;
-use session::open::Open;
-use session::role::Role;
+use session::{Open, Role};
 use trouble::Trouble;
 
 fn main(rt: HostRuntime) -> Result<(), Trouble> {

@@ -10,7 +10,7 @@ pub enum Trouble {
     #[error("{0}")]
     Vet(#[from] equivalence::Fault),
     #[error("{0}")]
-    Session(#[from] session::faults::Fault),
+    Session(#[from] session::Fault),
     #[error("{0}")]
     Question(#[from] question::Fault),
     #[error("out of memory")]
