@@ -1,14 +1,15 @@
 -- The classes of the nodes, found by searches.
 use Rattle.std.proofs.Common.{◌≡◌, ℕ, ◌+◌, ◌<◌, ◌≤◌, true, false, List, [], ◌∷◌, ◌++◌, length, Option, Some, None, MatchOption, unwrap_or, sym, ap, ◌∙◌, inl, inr, arith}
-use Rattle.std.proofs.lemmas.Bool.{cases_eq}
+use Rattle.std.proofs.lemmas.Bool.{cases_eq, eq-eqb}
 use Rattle.std.proofs.lemmas.List.{get_or_append_left, get_or_push}
 use Rattle.network.specs.Meaning.{Meaning}
 use Rattle.equivalence.specs.Regular.{Table}
 use Rattle.equivalence.specs.Starting.{starts_with, starting_classes}
 use Rattle.equivalence.specs.Vetted.{table_of}
 use Rattle.equivalence.proofs.Lowest.{lowest_is}
-use Rattle.equivalence.proofs.Starting.{starting_again, starting_equivalence, starting_le}
+use Rattle.equivalence.proofs.Starting.{starting_again, starting_colours, starting_equivalence, starting_le, starting_tells}
 use Rattle.session.specs.Roles.{Headed}
+use Rattle.session.specs.States.{ClassesLaw}
 
 module _ (m : Meaning) (colours : Table) (x : ℕ) where
   pub class_found :
@@ -36,3 +37,6 @@ headed_classes m colours heads few at =
       below = λ x l. omega (arith, at x l, starting_le m colours x);
       own = λ x l. ap (table_of heads) (at x l) ∙ at (starting_classes m colours x) (omega (arith, l, starting_le m colours x)) ∙ starting_again m colours x ∙ sym (at x l);
     }
+
+pub classes_law : ClassesLaw
+classes_law m colours x y = (starting_colours m colours x y, λ e. (starting_tells m colours x y).1 (eq-eqb (colours x) (colours y) e))

@@ -4,12 +4,13 @@
 --   role           the role of a node
 --   role_count     how many roles there are
 --   classes        the starting classes
+--   ClassesLaw     so nodes are of one class exactly where they are of one colour
 --   class_count    how many starting classes there are
 --   record_of      the head and the size of a role
 --   state_with     the state of ties and a table of role records
 --   IsSound        what every state of a session is
 --   KeepsHeads     every head of the old state is a head of the new one
-use Rattle.std.specs.Prelude.{◌≡◌, ℕ, ◌+◌, ◌<◌, ◌≤◌, List, length}
+use Rattle.std.specs.Prelude.{◌≡◌, ◌↔◌, ℕ, ◌+◌, ◌<◌, ◌≤◌, List, length}
 use Rattle.network.specs.Meaning.{Meaning, count_below, most_nodes}
 use Rattle.measure.specs.Measures.{Operations}
 use Rattle.equivalence.specs.Regular.{Table, members}
@@ -37,6 +38,10 @@ role_count s = roles (role s) s.network.nodes
 
 abbrev pub classes : State → Table
 classes s = starting_classes s.network s.colours
+
+abbrev pub ClassesLaw : Type 0
+ClassesLaw =
+    (m : Meaning) (colours : Table) (x y : ℕ) → (starting_classes m colours x ≡ starting_classes m colours y) ↔ (colours x ≡ colours y)
 
 abbrev pub class_count : State → ℕ
 class_count s = roles (classes s) s.network.nodes

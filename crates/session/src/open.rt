@@ -1,7 +1,7 @@
 // An open session: ties and colours change, and roles are split step by step.
 ghost use Rattle.std.specs.Prelude.{◌≡◌};
 ghost use Rattle.network.specs.Put.{put_answer, put_after};
-ghost use Rattle.session.specs.States.{IsSound, state_with};
+ghost use Rattle.session.specs.States.{ClassesLaw, IsSound, state_with};
 ghost use Rattle.session.specs.Sessions.{Begun, Edited, colour_answer, colours_after};
 
 use super::faults::Fault;
@@ -36,6 +36,7 @@ impl<N: Editable, M: Measure> Open<N, M> {
     pub fn new(network: N, measure: M) -> Self
         ensures begun { Begun (N.Readable.meaning network) (λ _. 0) (state_of result) }
         ensures parts { parts_of result ≡ (network, measure) }
+        ensures classes { ClassesLaw }
     {
         let table = Table::new(&network);
         Open {

@@ -1,7 +1,7 @@
 // A settled session: its table is the coarsest regular one within the starting classes.
 ghost use Rattle.std.specs.Prelude.{◌≡◌, ◌↔◌, ◌+◌, ◌<◌, IfErr, IfOk, IsOk};
 ghost use Rattle.equivalence.specs.Regular.{Regular};
-ghost use Rattle.equivalence.specs.Coarsest.{Coarsest};
+ghost use Rattle.equivalence.specs.Coarsest.{Coarsest, FewestLaw};
 ghost use Rattle.session.specs.OpenSessions.{state_of, parts_of};
 ghost use Rattle.session.specs.Roles.{Described};
 ghost use Rattle.session.specs.Sessions.{Ended};
@@ -100,6 +100,7 @@ impl<N: Editable, M: Measure> Settled<N, M> {
         ensures sound { IsSound M.Measure.ops (settled_state self.now) }
         ensures coarsest { let s = settled_state self.now in
             Coarsest M.Measure.ops s.network (classes s) (role s) }
+        ensures fewest { FewestLaw M.Measure.ops }
     {
         self.session.table()
     }

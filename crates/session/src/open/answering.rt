@@ -1,11 +1,10 @@
 // What a question is true of, row by row.
-ghost use Rattle.std.specs.Prelude.{◌≡◌, ℕ, ◌+◌, ◌*◌, ◌<◌, ◌≤◌, length, ◌++◌, drop, filter};
-ghost use Rattle.std.specs.Prelude.{flat_map, Err, IfOk, MatchResult, Ok, Some};
-ghost use Rattle.std.specs.Result.{IsOk};
+ghost use Rattle.std.specs.Prelude.{◌≡◌, ◌+◌, ◌*◌, ◌<◌, ◌≤◌, length, ◌++◌, drop, filter};
+ghost use Rattle.std.specs.Prelude.{flat_map, Ok};
 ghost use Rattle.std.specs.List.{range_with_len};
 ghost use Rattle.question.specs.Checks.{answer_start, lines_check};
 ghost use Rattle.question.specs.Lines.{claim};
-ghost use Rattle.question.specs.Truth.{answer, line_row, rows};
+ghost use Rattle.question.specs.Truth.{line_row, rows};
 ghost use Rattle.question.specs.Areas.{area_after, row_bytes};
 ghost use Rattle.question.specs.declared.line.Claim.{Claim};
 ghost use Rattle.session.specs.Marks.{marked, Written};
