@@ -2,6 +2,7 @@
 ghost use Rattle.std.specs.Prelude.{◌≡◌};
 ghost use Rattle.equivalence.specs.Coarsest.{FewestLaw};
 ghost use Rattle.equivalence.specs.Levels.{CoarsestNamed, LevelsCoarsest};
+ghost use Rattle.equivalence.specs.Splitting.{SplitLaw};
 ghost use Rattle.session.specs.SettledSessions.{settled_parts, settled_state};
 ghost use Rattle.driving.specs.Courses.{last_book};
 ghost use Rattle.driving.specs.Laws.{RunLaws};
@@ -29,8 +30,9 @@ pub fn drive<N: Editable, M: Measure>(
         Driven M.Measure.ops m exchanges.old exchanges.new (settled_state result) }
     ensures measure { (settled_parts result).1 ≡ measure }
 
-    // Of every run, and so of this one.
+    // Of every run, and so of this one, and of each split in it.
     ensures laws { RunLaws M.Measure.ops }
+    ensures splits { SplitLaw M.Measure.ops }
 
     // Of every network and all starting classes.
     ensures fewest { FewestLaw M.Measure.ops }

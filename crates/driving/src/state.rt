@@ -4,7 +4,7 @@ ghost use Rattle.session.specs.OpenSessions.{parts_of, state_of};
 ghost use Rattle.session.specs.Sessions.{Ended};
 ghost use Rattle.session.specs.SettledSessions.{settled_parts, settled_state};
 ghost use Rattle.session.specs.States.{IsSound};
-ghost use Rattle.driving.specs.Courses.{course_after};
+ghost use Rattle.driving.specs.Courses.{course_after, takes};
 ghost use Rattle.driving.specs.States.{course_in, is_put, is_settled, parts_in, state_in};
 ghost use Rattle.driving.specs.Turns.{Edits, Turn, told};
 ghost use Rattle.driving.specs.declared.call.Call.{Call};
@@ -65,6 +65,8 @@ impl<N: Editable, M: Measure> Session<N, M> {
         ensures sound { IsSound M.Measure.ops (state_in result.0) }
         ensures measure { (parts_in result.0).1 ≡ (parts_in self).1 }
         ensures network { is_put call.entry ≡ false → parts_in result.0 ≡ parts_in self }
+        ensures untaken { takes (is_settled self) call.entry ≡ false
+            → parts_in result.0 ≡ parts_in self }
     {
         match (self, call) {
             (Session::Open(mut session), Call::Edit(change)) => {

@@ -3,6 +3,7 @@ use Rattle.std.proofs.lemmas.Bool.{cases_Bool}
 use Rattle.std.proofs.lemmas.List.{length-map, take_all}
 use Rattle.equivalence.proofs.Levels.{coarsest_named, levels_coarsest}
 use Rattle.equivalence.proofs.Refinement.{fewest}
+use Rattle.equivalence.proofs.Splitting.{split_law}
 use Rattle.session.specs.SettledSessions.{settled_state}
 use Rattle.driving.specs.Book.{Book, book_in}
 use Rattle.driving.specs.Courses.{Course, calls_of, course_after, course_before, course_of, last_book}
@@ -105,6 +106,9 @@ returns-clause-promise g c = promised g.M.Measure.ops g.met.M.Measure.lawful (se
 
 pub returns-clause-measure : goal.returns-clause-measure
 returns-clause-measure g c = ap (λ p. p.1) c.settle.ensures.parts ∙ c.loop-exchange.invariant.0
+
+pub returns-clause-splits : goal.returns-clause-splits
+returns-clause-splits g c = split_law g.M.Measure.ops g.met.M.Measure.lawful
 
 pub returns-clause-levels : goal.returns-clause-levels
 returns-clause-levels g c = levels_coarsest g.M.Measure.ops g.met.M.Measure.lawful
