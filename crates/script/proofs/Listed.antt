@@ -6,7 +6,7 @@ use Rattle.measure.specs.KindLaws.{kinds_laws}
 use Rattle.measure.specs.TallyLaws.{tally_laws}
 use Rattle.equivalence.specs.Heads.{roles}
 use Rattle.equivalence.proofs.Levels.{coarsest_level, named_head}
-use Rattle.equivalence.proofs.Refinement.{roles_le}
+use Rattle.equivalence.proofs.Refinement.{fewest, roles_le}
 use Rattle.question.specs.declared.line.Line.{Line}
 use Rattle.driving.specs.Book.{Book}
 use Rattle.script.specs.Listings.{classes, heads, role_total, split_total, settled_lines, true_lines, go_lines, each_below}
@@ -32,6 +32,7 @@ module _ {V : Type 0} (o : Operations V) (laws : Laws o) (book : Book) where
         parts = refl;
         nodes = refl;
         coarsest = coarsest_level o laws book.network (classes book);
+        fewest = λ other regular within. fewest o book.network (classes book) (heads o book) other (coarsest_level o laws book.network (classes book)) regular within;
         heads = named_head o laws book.network (classes book);
         counted = split_counted;
         asked = refl;

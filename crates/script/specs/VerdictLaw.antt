@@ -1,9 +1,11 @@
 -- Which records are accepted, and why the others are refused.
 --
+--   Answer        accepted, or the reason
 --   held          the answer of a part below, with its fault held whole
 --   sized         before the work: a network by its number of nodes, and a list by its slots too, and every other record is accepted
 --   verdict       at the work: a put, a colour and a question line by a book and the question so far, and every other record is accepted
 --   Judged        by the book of the edits since, and the lines that were accepted since the last GO
+--   phase_behind  the phase that the records lead to
 --   VerdictLaw    so is each record that belongs to its stage
 use Rattle.std.specs.Prelude.{◌≡◌, ℕ, ◌+◌, true, false, cond, ◌&&◌, nat_le, nat_lt, List, fold, Result, Ok, Err}
 use Rattle.network.specs.Meaning.{Meaning}
