@@ -3,13 +3,14 @@
 --   started      a network without ties
 --   replies      what each edit replies, in the book that those before it leave
 --   edited       the book that the edits leave
+--   Entry        a network, the edits that draw it with their replies, a measure, and what is known
 --   drawn        the book of the network
 --   classes      its starting classes
 --   Shows        three nodes show that a table is not regular, and no other three do, so they are the vet's answer
 --   KnownUnder   each edit replies so, and then the table is the coarsest, with so many roles after so many splits
 --   KnownBy      the same, by the name of the measure
 --   Known        the same, by the measure of the entry
---   AllKnown     so it is with each of a list
+--   entry_of     an entry of the code, without its loans
 use Rattle.std.specs.Prelude.{◌≡◌, ℕ, ◌+◌, ◌<◌, List, [], ◌∷◌, length, map, Option, Some, Result, Ok, All}
 use Rattle.network.specs.Listed.{untied_slots}
 use Rattle.network.specs.Meaning.{Meaning}
@@ -22,14 +23,13 @@ use Rattle.measure.specs.Tally.{tally}
 use Rattle.equivalence.specs.Regular.{Table, Unequal}
 use Rattle.equivalence.specs.Vetted.{table_of, Vetted}
 use Rattle.equivalence.specs.Coarsest.{Coarsest}
-use Rattle.equivalence.specs.Heads.{head_of, roles}
+use Rattle.equivalence.specs.Heads.{head_of, roles as role_count}
 use Rattle.equivalence.specs.Starting.{starting_classes}
 use Rattle.equivalence.specs.declared.faults.Fault.{Fault}
 use Rattle.driving.specs.Book.{Book, book_after, opened}
 use Rattle.driving.specs.Turns.{edit_reply}
 use Rattle.driving.specs.declared.call.Edit.{Edit}
 use Rattle.driving.specs.declared.call.Reply.{Reply}
-use Rattle.driving.specs.declared.known.Irregular.{Irregular}
 use Rattle.driving.specs.declared.known.KnownNetwork.{KnownNetwork}
 use Rattle.driving.specs.declared.known.Start.{Start}
 use Rattle.driving.specs.declared.known.Start.TheVariants.{Matrix, TwoMode, List as Slots}
@@ -49,37 +49,56 @@ abbrev pub edited : Book → List (Edit × Reply) → Book
 edited book [] = book
 edited book (edit ∷ edits) = edited (book_after book edit.0) edits
 
-abbrev pub drawn : KnownNetwork → Book
-drawn known = edited (opened (started known.start)) known.edits.now
+pub record Entry : Type 0 where
+  pub start : Start
+  pub edits : List (Edit × Reply)
+  pub weighing : Weighing
+  pub table : List ℕ
+  pub roles : ℕ
+  pub splits : ℕ
+  -- tables that are not regular, each with its witness
+  pub irregular : List (List ℕ × (ℕ × ℕ × ℕ))
 
-abbrev pub classes : KnownNetwork → Table
+abbrev pub drawn : Entry → Book
+drawn known = edited (opened (started known.start)) known.edits
+
+abbrev pub classes : Entry → Table
 classes known = starting_classes (drawn known).network (drawn known).colours
 
-pub record Shows {V : Type 0} (o : Operations V) (m : Meaning) (irregular : Irregular) : Type 0 where
-  pub one_each : length irregular.table.now ≡ m.nodes
-  pub shown : Unequal o m (table_of irregular.table.now) irregular.witness.0 irregular.witness.1 irregular.witness.2
-  pub only : (x y z : ℕ) → Unequal o m (table_of irregular.table.now) x y z → (x ≡ irregular.witness.0) × (y ≡ irregular.witness.1) × (z ≡ irregular.witness.2)
+pub record Shows {V : Type 0} (o : Operations V) (m : Meaning) (irregular : List ℕ × (ℕ × ℕ × ℕ)) : Type 0 where
+  pub one_each : length irregular.0 ≡ m.nodes
+  pub shown : Unequal o m (table_of irregular.0) irregular.1.0 irregular.1.1 irregular.1.2
+  pub only : (x y z : ℕ) → Unequal o m (table_of irregular.0) x y z → (x, y, z) ≡ irregular.1
   -- so the vet answers with these three
-  pub answer : (r : Result (Option (ℕ × ℕ × ℕ)) Fault) → Vetted o m irregular.table.now r → r ≡ Ok (Some irregular.witness)
+  pub answer : (r : Result (Option (ℕ × ℕ × ℕ)) Fault) → Vetted o m irregular.0 r → r ≡ Ok (Some irregular.1)
 
-pub record KnownUnder {V : Type 0} (o : Operations V) (known : KnownNetwork) : Type 0 where
-  pub answered : replies (opened (started known.start)) known.edits.now ≡ map (λ edit. edit.1) known.edits.now
-  pub one_each : length known.table.now ≡ (drawn known).network.nodes
-  pub coarsest : Coarsest o (drawn known).network (classes known) (table_of known.table.now)
+pub record KnownUnder {V : Type 0} (o : Operations V) (known : Entry) : Type 0 where
+  pub answered : replies (opened (started known.start)) known.edits ≡ map (λ edit. edit.1) known.edits
+  pub one_each : length known.table ≡ (drawn known).network.nodes
+  pub coarsest : Coarsest o (drawn known).network (classes known) (table_of known.table)
   -- each role is called by its head
-  pub heads : (x : ℕ) → x < (drawn known).network.nodes → head_of (table_of known.table.now) x ≡ table_of known.table.now x
-  pub count : roles (table_of known.table.now) (drawn known).network.nodes ≡ known.roles
+  pub heads : (x : ℕ) → x < (drawn known).network.nodes → head_of (table_of known.table) x ≡ table_of known.table x
+  pub count : role_count (table_of known.table) (drawn known).network.nodes ≡ known.roles
   -- a split makes one role more, from the starting classes on
-  pub splits : known.splits + roles (classes known) (drawn known).network.nodes ≡ known.roles
-  pub irregular : All (Shows o (drawn known).network) known.irregular.now
+  pub splits : known.splits + role_count (classes known) (drawn known).network.nodes ≡ known.roles
+  pub irregular : All (Shows o (drawn known).network) known.irregular
 
-abbrev pub KnownBy : Weighing → KnownNetwork → Type 0
+abbrev pub KnownBy : Weighing → Entry → Type 0
 KnownBy Kinds = KnownUnder kinds
 KnownBy Bundles = KnownUnder bundles
 KnownBy Tally = KnownUnder tally
 
-abbrev pub Known : KnownNetwork → Type 0
+abbrev pub Known : Entry → Type 0
 Known known = KnownBy known.weighing known
 
-pub record AllKnown (networks : List KnownNetwork) : Type 0 where
-  pub each : All Known networks
+abbrev pub entry_of : KnownNetwork → Entry
+entry_of known =
+    record {
+      start = known.start;
+      edits = known.edits.now;
+      weighing = known.weighing;
+      table = known.table.now;
+      roles = known.roles;
+      splits = known.splits;
+      irregular = map (λ irregular. (irregular.table.now, irregular.witness)) known.irregular.now;
+    }

@@ -5,3 +5,4 @@ pub mod Laws
 pub mod States
 pub mod Promise
 pub mod Known
+pub mod KnownNetworks

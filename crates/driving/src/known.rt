@@ -1,5 +1,7 @@
 // The small networks with known tables.
-ghost use Rattle.driving.specs.Known.{AllKnown};
+ghost use Rattle.std.specs.Prelude.{◌≡◌, All, map};
+ghost use Rattle.driving.specs.Known.{Known, entry_of};
+ghost use Rattle.driving.specs.KnownNetworks.{known_networks};
 
 use super::call::{Edit, Reply};
 
@@ -53,7 +55,8 @@ pub struct Irregular {
 
 /// The small networks, one entry for each measure under which the table is known.
 pub fn known_networks() -> [KnownNetwork; 12]
-    ensures { AllKnown result }
+    ensures data { map entry_of result ≡ known_networks }
+    ensures known { All Known known_networks }
 {
     NETWORKS
 }
