@@ -1,10 +1,13 @@
 -- The heads of roles.
-use Rattle.std.proofs.Common.{◌≡◌, ℕ, ◌<◌, ◌≤◌, Option, Some, None, MatchOption, unwrap_or, sym, refl, ◌↔◌, arith}
+use Rattle.std.proofs.Common.{◌≡◌, ℕ, ◌<◌, ◌≤◌, List, length, take, Option, Some, None, MatchOption, unwrap_or, sym, refl, ◌∙◌, ◌↔◌, arith}
 use Rattle.std.specs.Prelude.{Decides, ◌≢◌}
+use Rattle.std.specs.List.{AllWithin, HoldsAt}
+use Rattle.std.proofs.lemmas.List.{get_or-take, length-take-le}
 use Rattle.std.proofs.lemmas.Bool.{eq-eqb, eqb-true}
 use Rattle.std.proofs.lemmas.Bool.Decides.{nat_tests, Decides-eqb}
 use Rattle.equivalence.specs.Regular.{Table, members}
 use Rattle.equivalence.specs.Heads.{head_of, is_head}
+use Rattle.equivalence.specs.Vetted.{table_of}
 use Rattle.equivalence.proofs.Lowest.{Equivalence, lowest_le, lowest_first, lowest_passes, lowest_is, name_same, name_together}
 
 module _ (role : Table) where
@@ -53,3 +56,17 @@ module _ (role : Table) where
       → unwrap_or r x ≡ head_of role x
   head_found x None none = sym (head_is x x refl (λ k l. none k (omega arith) l))
   head_found x (Some i) found = sym (head_is i x found.2 (λ k l. found.3 k (omega arith) l))
+
+-- the same of the roles of the nodes before x
+pub head_position :
+    (table : List ℕ) (x : ℕ) (r : Option ℕ)
+    → x ≤ length table
+    → MatchOption r (AllWithin (λ v. v ≢ table_of table x) (take x table) 0 (length (take x table))) (λ i. (i < length (take x table)) × HoldsAt (λ v. v ≡ table_of table x) (take x table) i × AllWithin (λ v. v ≢ table_of table x) (take x table) 0 i)
+    → unwrap_or r x ≡ head_of (table_of table) x
+head_position table x None fits none =
+    let within : length (take x table) ≡ x = length-take-le x table fits in
+    head_found (table_of table) x None (λ k z h e. none k 0 z (omega (arith, within, h)) (get_or-take x table k 0 h ∙ e))
+head_position table x (Some i) fits found =
+    let under : i < x = omega (arith, length-take-le x table fits, found.0) in
+    head_found (table_of table) x (Some i)
+    (omega arith, under, sym (get_or-take x table i 0 under) ∙ found.1 0, λ k z h e. found.2 k 0 z h (get_or-take x table k 0 (omega (arith, h, under)) ∙ e))

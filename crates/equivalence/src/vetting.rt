@@ -26,9 +26,8 @@ impl<'a, N: Readable, M: Measure> Vetting<'a, N, M> {
         ensures within { result ≤ x }
         ensures head { result ≡ head_of (table_of self.now.table.now) x }
     {
-        (0..x)
-            .find(|&k| self.table[k] == self.table[x])
-            .unwrap_or(x)
+        let role = self.table[x];
+        self.table[..x].iter().position(|&r| r == role).unwrap_or(x)
     }
 
     // The total of x toward a role.
